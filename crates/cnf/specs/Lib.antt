@@ -1,0 +1,5 @@
+pub mod Truth
+pub mod Words
+pub mod Table
+pub mod Finite
+pub mod Laws

@@ -1,0 +1,2 @@
+// Literals, clauses and the representative table: the theory that all other crates cite, and the code closest to it.
+pub mod kind;

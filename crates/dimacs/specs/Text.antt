@@ -17,6 +17,7 @@ use Rattle.faults.specs.declared.Fault.{Fault}
 use Rattle.faults.specs.declared.Fault.the-variants.{Reader, Sheet}
 use Rattle.faults.specs.declared.Located.{Located}
 use Rattle.cnf.specs.Words.{encode}
+use Rattle.dimacs.specs.declared.problem.Problem.{Problem}
 use Rattle.dimacs.specs.Numbers.{isFeed, isSpace, isBlank, isComment, cut, filled, numeral, number}
 
 -- the number of nets and the clauses, in order and as written
@@ -60,24 +61,19 @@ abbrev pub startsBlank : List ℕ → Bool
 startsBlank [] = false
 startsBlank (b ∷ bs) = isSpace b
 
--- the two numbers that a header declares
-pub record Header : Type 0 where
-  pub nets : ℕ
-  pub clauses : ℕ
-
-abbrev pub both : Option ℕ → Option ℕ → Option Header
+abbrev pub both : Option ℕ → Option ℕ → Option Problem
 both None m = None
 both (Some n) None = None
 both (Some n) (Some m) = Some (record { nets = n; clauses = m })
 
-abbrev pub pair : List (List ℕ) → Option Header
+abbrev pub pair : List (List ℕ) → Option Problem
 pair [] = None
 pair (n ∷ []) = None
 pair (n ∷ m ∷ []) = both (numeral n) (numeral m)
 pair (n ∷ m ∷ l ∷ ls) = None
 
 -- the five bytes p cnf, spaces, the number of nets, spaces, the number of clauses, and any spaces
-abbrev pub headerOf : List ℕ → Option Header
+abbrev pub headerOf : List ℕ → Option Problem
 headerOf l = cond (sameBytes (take 5 l) (bytes "p cnf") && startsBlank (drop 5 l)) (pair (filled (cut isSpace (drop 5 l)))) None
 
 -- the code of a number in a clause that has k literals so far: its form, then its size, then the clause's length are judged
@@ -115,22 +111,22 @@ closed ((c ∷ p) ∷ []) = None
 closed (p ∷ q ∷ ps) = mapped (λ cs. p ∷ cs) (closed (q ∷ ps))
 
 -- what holds at the text's end, which is on the line `end`: no clause is open, as many as declared, and room for their words in the store space
-abbrev pub finished : Header → ℕ → ℕ → Option (List (List ℕ)) → Answer
+abbrev pub finished : Problem → ℕ → ℕ → Option (List (List ℕ)) → Answer
 finished h space end None = fault end (Reader ClauseCount)
 finished h space end (Some cs) =
     cond (eqb (length cs) (h .clauses))
     (cond (leb (length (encode cs)) (min space 30000)) (Ok (record { nets = h .nets; clauses = cs })) (fault end (Sheet StoreFull)))
     (fault end (Reader ClauseCount))
 
-abbrev pub ended : Header → ℕ → ℕ → Result (List ℕ) Located → Answer
+abbrev pub ended : Problem → ℕ → ℕ → Result (List ℕ) Located → Answer
 ended h space end (Err e) = Err e
 ended h space end (Ok cs) = finished h space end (closed (cut isEnd cs))
 
 -- the lines behind the header
-abbrev pub body : Header → ℕ → ℕ → List Placed → Answer
+abbrev pub body : Problem → ℕ → ℕ → List Placed → Answer
 body h space end ls = ended h space end (codes (h .nets) 0 (tokens ls))
 
-abbrev pub limited : ℕ → Option Header → (Header → Answer) → Answer
+abbrev pub limited : ℕ → Option Problem → (Problem → Answer) → Answer
 limited line None rest = fault line (Reader HeaderForm)
 limited line (Some h) rest = cond (leb (h .nets) 2000 && leb (h .clauses) 8000) (rest h) (fault line (Reader HeaderLimit))
 

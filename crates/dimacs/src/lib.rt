@@ -1,8 +1,5 @@
 // The narrowed DIMACS CNF text.
-ghost use Rattle.dimacs.specs.Written.{Reads-back};
-
-pub fn stands() -> u8
-    ensures { λ r. ⌜ Reads-back ⌝ }
-{
-    0
-}
+pub mod error;
+mod header;
+mod number;
+mod problem;

@@ -1,11 +1,11 @@
 -- The bytes that write numbers, and the numbers that they write. Assumes nothing.
-use mathlib.Core.Bool.{Bool, true, false, cond, _&&_}
+use mathlib.Core.Bool.{Bool, true, false, cond}
 use mathlib.Core.List.{List, [], _∷_, _++_, append-nil, append-assoc}
 use mathlib.Core.Logic.{_⊎_, inl, inr}
 use mathlib.Core.Path.{_≡_, refl, sym, ap, subst, _∙_}
-use Prim.Native.Nat.{ℕ, zero, suc, _+_, _-_, _*_, _/_, _%_, _^_, _≤_, _<_}
+use Prim.Native.Nat.{ℕ, _+_, _-_, _*_, _/_, _%_, _^_, _≤_, _<_}
 use native.Mathlib.Omega.{arith}
-use lib.Dec.{eqb, leb}
+use lib.Dec.{leb}
 use lib.ListN.{length, getD}
 use Rattle.std.specs.Written.{decimal}
 use Rattle.std.specs.shelf.Lists.{All}
@@ -15,6 +15,10 @@ use Rattle.std.proofs.shelf.Tests.{le-leb, eq-eqb, ne-eqb, and-from, or-from, c
 use Rattle.std.specs.declared.option.Option.the-variants.{Some, None}
 use Rattle.dimacs.specs.Numbers.{isDigit, isFeed, isSpace, isBlank, digits, short, numeral, positive, negative, number}
 use Rattle.dimacs.specs.Written.{spelled}
+use Rattle.dimacs.proofs.Pieces.{Free}
+
+abbrev pub Digit : ℕ → Type 0
+Digit b = (48 ≤ b) × (b ≤ 57)
 
 -- a digit or a minus, as every byte of a number is
 abbrev pub Inked : ℕ → Type 0
@@ -51,11 +55,11 @@ digits-decimal = decimal-by-steps (λ n ds. (bs : List ℕ) → digits 0 (ds ++ 
         ∙ ap (λ k. digits k bs) (let e : n / 10 * 10 + n % 10 ≡ n = omega arith in e)
 
 -- each byte is a digit
-pub decimal-digits : (v : ℕ) → v < 2 ^ 64 → All (λ b. (48 ≤ b) × (b ≤ 57)) (decimal v)
-decimal-digits = decimal-by-steps (λ n ds. All (λ b. (48 ≤ b) × (b ≤ 57)) ds) (λ n h. ((omega arith, omega arith), tt)) (λ n ds h ih. all-push _ ds (48 + n % 10) ih (omega arith, omega arith))
+pub decimal-digits : (v : ℕ) → v < 2 ^ 64 → All Digit (decimal v)
+decimal-digits = decimal-by-steps (λ n ds. All Digit ds) (λ n h. ((omega arith, omega arith), tt)) (λ n ds h ih. all-push Digit ds (48 + n % 10) ih (omega arith, omega arith))
 
 pub decimal-inked : (v : ℕ) → v < 2 ^ 64 → All Inked (decimal v)
-decimal-inked v h = all-weaker _ Inked (λ b k. (omega arith, omega arith)) (decimal v) (decimal-digits v h)
+decimal-inked v h = all-weaker Digit Inked (λ b k. (omega arith, omega arith)) (decimal v) (decimal-digits v h)
 
 pub short-is : (t : List ℕ) → 0 < length t → length t ≤ 5 → (getD t 0 0 ≡ 48 → length t ≡ 1) → short t ≡ true
 short-is [] h l f = absurd (omega arith)
@@ -78,7 +82,7 @@ numeral-decimal v h =
     ∙ ap (digits 0) (sym (append-nil (decimal v))) ∙ digits-decimal v (omega arith) []
 
 -- digits with no minus
-pub number-digits : (t : List ℕ) → All (λ b. (48 ≤ b) × (b ≤ 57)) t → number t ≡ positive (numeral t)
+pub number-digits : (t : List ℕ) → All Digit t → number t ≡ positive (numeral t)
 number-digits [] h = refl
 number-digits (b ∷ bs) h =
     let d = h .0 in
@@ -118,3 +122,11 @@ spelled-inked c h = spelled-either (All Inked) c (λ e. decimal-inked (c / 2) h)
 
 pub spelled-some : (c : ℕ) → c / 2 < 2 ^ 64 → 0 < length (spelled c)
 spelled-some c h = spelled-either (λ t. 0 < length t) c (λ e. decimal-some (c / 2) h) (λ e. omega arith)
+
+-- what parts numbers stands in none
+module _ (q : ℕ → Bool) (apart : (b : ℕ) → Inked b → q b ≡ false) where
+  pub decimal-free : (v : ℕ) → v < 2 ^ 64 → Free q (decimal v)
+  decimal-free v h = all-weaker Inked (λ b. q b ≡ false) apart (decimal v) (decimal-inked v h)
+
+  pub spelled-free : (c : ℕ) → c / 2 < 2 ^ 64 → Free q (spelled c)
+  spelled-free c h = all-weaker Inked (λ b. q b ≡ false) apart (spelled c) (spelled-inked c h)

@@ -1,53 +1,30 @@
 -- Reading what is written gives the list back. Assumes nothing.
 use mathlib.Core.Bool.{Bool, true, false, cond, _&&_}
 use mathlib.Core.List.{List, [], _∷_, _++_, map, append-assoc}
-use mathlib.Core.Path.{_≡_, refl, sym, ap, subst, _∙_}
-use Prim.Native.Nat.{ℕ, zero, suc, _+_, _-_, _*_, _/_, _%_, _^_, _≤_, _<_, min}
+use mathlib.Core.Path.{_≡_, refl, sym, ap, _∙_}
+use Prim.Native.Nat.{ℕ, _+_, _*_, _/_, _^_, _≤_, _<_, min}
 use native.Mathlib.Omega.{arith}
 use lib.Chars.{codes as bytes}
-use lib.Dec.{eqb, leb, ltb}
+use lib.Dec.{leb, ltb}
 use lib.ListN.{length}
 use Rattle.std.specs.Options.{mapped}
 use Rattle.std.specs.Written.{decimal}
 use Rattle.std.specs.shelf.Lists.{All}
-use Rattle.std.specs.declared.option.Option.{Option}
-use Rattle.std.specs.declared.option.Option.the-variants.{Some, None}
-use Rattle.std.specs.declared.result.Result.{Result}
+use Rattle.std.specs.declared.option.Option.the-variants.{Some}
 use Rattle.std.specs.declared.result.Result.the-variants.{Ok, Err}
 use Rattle.std.proofs.shelf.Decimals.{decimal-some}
-use Rattle.std.proofs.shelf.Elements.{all-append, all-weaker}
+use Rattle.std.proofs.shelf.Elements.{all-append}
 use Rattle.std.proofs.shelf.Tests.{le-leb, le-ltb, lt-leb, eq-eqb, ne-eqb, and-parts, and-from, and-right, leb-true}
 use Rattle.faults.specs.declared.ReaderFault.the-variants.{TextTooLong, ClauseCount, HeaderLimit}
 use Rattle.faults.specs.declared.SheetFault.the-variants.{NoSuchVariable, TooManyLiterals, StoreFull}
-use Rattle.faults.specs.declared.Fault.{Fault}
 use Rattle.faults.specs.declared.Fault.the-variants.{Reader, Sheet}
-use Rattle.faults.specs.declared.Located.{Located}
 use Rattle.cnf.specs.Truth.{named, inside}
 use Rattle.cnf.specs.Words.{encode, good, goods}
-use Rattle.dimacs.specs.Numbers.{isFeed, isSpace, isBlank, isComment, glue, cut, filled, numeral, number}
-use Rattle.dimacs.specs.Text.{Answer, Header, Placed, fault, placed, lines, plain, words, tokens, both, pair, headerOf, judged, opened, ahead, behind, codes, isEnd, closed, finished, ended, body, limited, headed, textSays}
-use Rattle.dimacs.specs.Written.{spelled, clauseText, clausesText, written, Within, Reads-back}
-use Rattle.dimacs.proofs.Spelling.{Inked, inked-no-feed, inked-no-space, inked-no-blank, decimal-inked, numeral-decimal, number-spelled, spelled-inked, spelled-some}
-
--- no element has q
-abbrev pub Free : (ℕ → Bool) → List ℕ → Type 0
-Free q p = All (λ b. q b ≡ false) p
-
--- the first piece
-pub cut-piece : (q : ℕ → Bool) (p : List ℕ) (s : ℕ) (rest : List ℕ) → Free q p → q s ≡ true → cut q (p ++ s ∷ rest) ≡ p ∷ cut q rest
-cut-piece q [] s rest f e = ap (λ x. cond x ([] ∷ cut q rest) (glue (s ∷ []) (cut q rest))) e
-cut-piece q (b ∷ p) s rest f e =
-    ap (λ x. cond x ([] ∷ cut q (p ++ s ∷ rest)) (glue (b ∷ []) (cut q (p ++ s ∷ rest)))) (f .0)
-    ∙ ap (glue (b ∷ [])) (cut-piece q p s rest (f .1) e)
-
--- the only piece
-pub cut-whole : (q : ℕ → Bool) (p : List ℕ) → Free q p → cut q p ≡ p ∷ []
-cut-whole q [] f = refl
-cut-whole q (b ∷ p) f = ap (λ x. cond x ([] ∷ cut q p) (glue (b ∷ []) (cut q p))) (f .0) ∙ ap (glue (b ∷ [])) (cut-whole q p (f .1))
-
-pub filled-some : (p : List ℕ) (ps : List (List ℕ)) → 0 < length p → filled (p ∷ ps) ≡ p ∷ filled ps
-filled-some [] ps h = absurd (omega arith)
-filled-some (b ∷ p) ps h = refl
+use Rattle.dimacs.specs.Numbers.{isFeed, isSpace, isBlank, isComment, cut, filled, numeral}
+use Rattle.dimacs.specs.Text.{Header, Placed, fault, placed, lines, plain, tokens, both, pair, headerOf, judged, opened, ahead, behind, codes, isEnd, closed, finished, ended, body, limited, headed}
+use Rattle.dimacs.specs.Written.{spelled, clauseText, clausesText, written, Reads-back}
+use Rattle.dimacs.proofs.Pieces.{Free, cut-piece, cut-whole, filled-some}
+use Rattle.dimacs.proofs.Spelling.{Inked, inked-no-feed, inked-no-space, inked-no-blank, numeral-decimal, number-spelled, spelled-inked, spelled-some, decimal-free, spelled-free}
 
 -- a literal of a clause for n variables
 pub record Literal (n c : ℕ) : Type 0 where
@@ -98,16 +75,13 @@ clause-line (c ∷ cs) rest =
 header-line : (n m : ℕ) (rest : List ℕ) → bytes "p cnf " ++ (decimal n ++ 32 ∷ (decimal m ++ 10 ∷ rest)) ≡ headerLine n m ++ 10 ∷ rest
 header-line n m rest = ap (λ x. bytes "p cnf " ++ x) (sym (append-assoc (decimal n) (32 ∷ decimal m) (10 ∷ rest)))
 
-free-inked : (q : ℕ → Bool) → ((b : ℕ) → Inked b → q b ≡ false) → (p : List ℕ) → All Inked p → Free q p
-free-inked q f p h = all-weaker Inked (λ b. q b ≡ false) f p h
-
 -- the code of a variable up to n is accepted, where it ends the clause or the clause has fewer than 64 literals
 pub judged-ok : (n k c : ℕ) → c / 2 ≤ n → (ltb 0 c && leb 64 k) ≡ false → judged n k (Some c) ≡ Ok c
 judged-ok n k c h l =
     ap (λ x. cond x (Err (Sheet NoSuchVariable)) (cond (ltb 0 c && leb 64 k) (Err (Sheet TooManyLiterals)) (Ok c))) (le-ltb n (c / 2) h)
     ∙ ap (λ x. cond x (Err (Sheet TooManyLiterals)) (Ok c)) l
 
--- numbers up to 2000
+-- literals of at most 2000 variables
 module _ (n : ℕ) (small : n ≤ 2000) where
   clause-line-free : (c : List ℕ) → inside n c ≡ true → Free isFeed (clauseLine c)
   unfolding clauseLine
@@ -115,7 +89,7 @@ module _ (n : ℕ) (small : n ≤ 2000) where
   clause-line-free (c ∷ cs) h =
       let p = inside-parts n c cs h in
       let k = p .0 .known in
-      all-append _ (spelled c) (32 ∷ clauseLine cs) (free-inked isFeed inked-no-feed (spelled c) (spelled-inked c (omega arith))) (refl, clause-line-free cs (p .1))
+      all-append _ (spelled c) (32 ∷ clauseLine cs) (spelled-free isFeed inked-no-feed c (omega arith)) (refl, clause-line-free cs (p .1))
 
   -- the lines of the clauses, and the empty one behind the last line feed
   pub lines-clauses : (cs : List (List ℕ)) → goods n cs ≡ true → lines (clausesText cs) ≡ map clauseLine cs ++ [] ∷ []
@@ -143,7 +117,7 @@ module _ (n : ℕ) (small : n ≤ 2000) where
   clause-words (c ∷ cs) h =
       let p = inside-parts n c cs h in
       let k = p .0 .known in
-      ap filled (cut-piece isBlank (spelled c) 32 (clauseLine cs) (free-inked isBlank inked-no-blank (spelled c) (spelled-inked c (omega arith))) refl)
+      ap filled (cut-piece isBlank (spelled c) 32 (clauseLine cs) (spelled-free isBlank inked-no-blank c (omega arith)) refl)
       ∙ filled-some (spelled c) (cut isBlank (clauseLine cs)) (spelled-some c (omega arith)) ∙ ap (λ ps. spelled c ∷ ps) (clause-words cs (p .1))
 
   -- the codes of a clause, then those of what follows
@@ -193,21 +167,15 @@ closed-all (c ∷ d ∷ cs) = closed-more c d (cs ++ [] ∷ []) ∙ ap (mapped (
 -- the header line says its two numbers
 pub header-says : (n m : ℕ) → n < 100000 → m < 100000 → headerOf (headerLine n m) ≡ Some (record { nets = n; clauses = m })
 header-says n m h k =
-    ap (λ ps. pair (filled ps)) (cut-piece isSpace (decimal n) 32 (decimal m) (spaceless n (omega arith)) refl)
-    ∙ ap (λ ps. pair (filled (decimal n ∷ ps))) (cut-whole isSpace (decimal m) (spaceless m (omega arith)))
+    ap (λ ps. pair (filled ps)) (cut-piece isSpace (decimal n) 32 (decimal m) (decimal-free isSpace inked-no-space n (omega arith)) refl)
+    ∙ ap (λ ps. pair (filled (decimal n ∷ ps))) (cut-whole isSpace (decimal m) (decimal-free isSpace inked-no-space m (omega arith)))
     ∙ ap pair (filled-some (decimal n) (decimal m ∷ []) (decimal-some n (omega arith)) ∙ ap (λ ps. decimal n ∷ ps) (filled-some (decimal m) [] (decimal-some m (omega arith))))
     ∙ ap (λ o. both o (numeral (decimal m))) (numeral-decimal n h) ∙ ap (both (Some n)) (numeral-decimal m k)
-  where
-    spaceless : (v : ℕ) → v < 2 ^ 64 → Free isSpace (decimal v)
-    spaceless v l = free-inked isSpace inked-no-space (decimal v) (decimal-inked v l)
 
 header-line-free : (n m : ℕ) → n < 2 ^ 64 → m < 2 ^ 64 → Free isFeed (headerLine n m)
 header-line-free n m h k =
     all-append _ (bytes "p cnf ") (decimal n ++ 32 ∷ decimal m) (refl, (refl, (refl, (refl, (refl, (refl, tt))))))
-    (all-append _ (decimal n) (32 ∷ decimal m) (feedless n h) (refl, feedless m k))
-  where
-    feedless : (v : ℕ) → v < 2 ^ 64 → Free isFeed (decimal v)
-    feedless v l = free-inked isFeed inked-no-feed (decimal v) (decimal-inked v l)
+    (all-append _ (decimal n) (32 ∷ decimal m) (decimal-free isFeed inked-no-feed n h) (refl, decimal-free isFeed inked-no-feed m k))
 
 pub lines-written : (n : ℕ) (cs : List (List ℕ)) → n ≤ 2000 → length cs ≤ 8000 → goods n cs ≡ true → lines (written n cs) ≡ headerLine n (length cs) ∷ (map clauseLine cs ++ [] ∷ [])
 lines-written n cs h k g =

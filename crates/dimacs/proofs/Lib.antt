@@ -1,2 +1,5 @@
 pub mod Numbers
 pub mod Cutting
+pub mod Pieces
+pub mod Spelling
+pub mod Written

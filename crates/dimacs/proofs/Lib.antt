@@ -3,3 +3,4 @@ pub mod Cutting
 pub mod Pieces
 pub mod Spelling
 pub mod Written
+pub mod Keeping

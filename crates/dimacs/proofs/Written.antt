@@ -21,7 +21,8 @@ use Rattle.faults.specs.declared.Fault.the-variants.{Reader, Sheet}
 use Rattle.cnf.specs.Truth.{named, inside}
 use Rattle.cnf.specs.Words.{encode, good, goods}
 use Rattle.dimacs.specs.Numbers.{isFeed, isSpace, isBlank, isComment, cut, filled, numeral}
-use Rattle.dimacs.specs.Text.{Header, Placed, fault, placed, lines, plain, tokens, both, pair, headerOf, judged, opened, ahead, behind, codes, isEnd, closed, finished, ended, body, limited, headed}
+use Rattle.dimacs.specs.Text.{Placed, fault, placed, lines, plain, tokens, both, pair, headerOf, judged, opened, ahead, behind, codes, isEnd, closed, finished, ended, body, limited, headed}
+use Rattle.dimacs.specs.declared.problem.Problem.{Problem}
 use Rattle.dimacs.specs.Written.{spelled, clauseText, clausesText, written, Reads-back}
 use Rattle.dimacs.proofs.Pieces.{Free, cut-piece, cut-whole, filled-some}
 use Rattle.dimacs.proofs.Spelling.{Inked, inked-no-feed, inked-no-space, inked-no-blank, numeral-decimal, number-spelled, spelled-inked, spelled-some, decimal-free, spelled-free}
@@ -192,13 +193,13 @@ finished-all n space end cs h =
 -- the lines behind the header
 pub body-says : (n space end k : ℕ) (cs : List (List ℕ)) → n ≤ 2000 → goods n cs ≡ true → length (encode cs) ≤ min space 30000 → body (record { nets = n; clauses = length cs }) space end (plain k (map clauseLine cs ++ [] ∷ [])) ≡ Ok (record { nets = n; clauses = cs })
 body-says n space end k cs small g room =
-    let h : Header = record { nets = n; clauses = length cs } in
+    let h : Problem = record { nets = n; clauses = length cs } in
     ap (ended h space end) (codes-clauses n small k cs g) ∙ ap (λ ps. finished h space end (closed ps)) (cut-flat n cs g)
     ∙ ap (finished h space end) (closed-all cs) ∙ finished-all n space end cs room
 
 pub reads-back : Reads-back
 reads-back space n cs w =
-    let h : Header = record { nets = n; clauses = length cs } in
+    let h : Problem = record { nets = n; clauses = length cs } in
     let end : ℕ = length (lines (written n cs)) in
     let later : List Placed = plain 2 (map clauseLine cs ++ [] ∷ []) in
     ap (λ x. cond x (headed space end (plain 1 (lines (written n cs)))) (fault 1 (Reader TextTooLong))) (le-leb _ _ (w .size))

@@ -1,3 +1,4 @@
 pub mod Numbers
 pub mod Text
 pub mod Written
+pub mod Machine

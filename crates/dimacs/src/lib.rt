@@ -1,4 +1,5 @@
 // The narrowed DIMACS CNF text.
+mod clauses;
 pub mod error;
 mod header;
 mod number;

@@ -29,3 +29,7 @@ read-push ws c vs e v = ap read (words-push ws c vs e v) ∙ read-encode (read w
 -- a count is pushed, and then the codes
 pub pushed : (ws us vs c s : List ℕ) (n : ℕ) → us ≡ ws ++ n ∷ [] → vs ≡ us ++ s → s ≡ c → n ≡ length c → vs ≡ (ws ++ length c ∷ []) ++ c
 pushed ws us vs c s n a b d e = cc
+
+pub nothing : (xs : List ℕ) → length xs ≡ 0 → xs ≡ []
+nothing [] e = refl
+nothing (x ∷ xs) e = absurd (omega arith)

@@ -4,3 +4,6 @@ pub mod Pieces
 pub mod Spelling
 pub mod Written
 pub mod Keeping
+pub mod Bytes
+pub mod Stepping
+pub mod Arms

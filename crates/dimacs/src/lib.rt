@@ -4,3 +4,4 @@ pub mod error;
 mod header;
 mod number;
 mod problem;
+mod reader;

@@ -72,7 +72,7 @@ not-mark b ne nor = go (isFeed b) (isBlank b) (eqb b 99) (blank-not b) ne nor
     go false false true f h k = absurd (k refl)
     go false false false f h k = refl
 
-filled-whole : (t : List ℕ) (ps : List (List ℕ)) → 0 < length t → filled ((t ++ []) ∷ ps) ≡ t ∷ filled ps
+pub filled-whole : (t : List ℕ) (ps : List (List ℕ)) → 0 < length t → filled ((t ++ []) ∷ ps) ≡ t ∷ filled ps
 filled-whole t ps lt = ap (λ x. filled (x ∷ ps)) (append-nil t) ∙ filled-some t ps lt
 
 pub lines-split : (bs : List ℕ) → lines bs ≡ restOf bs ∷ nextOf bs

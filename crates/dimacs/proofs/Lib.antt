@@ -7,3 +7,4 @@ pub mod Keeping
 pub mod Bytes
 pub mod Stepping
 pub mod Arms
+pub mod Ending

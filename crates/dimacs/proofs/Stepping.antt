@@ -76,7 +76,7 @@ took p space end k s t (Ok c) ts h =
     ∙ ap (λ l. endedFrom p space end l (currentWith (vec-items (s .current)) c) (codes (p .nets) (length (currentWith (vec-items (s .current)) c)) ts)) (sym (h .closed))
     ∙ ap (λ l. endedFrom p space end (done t) l (codes (p .nets) (length l) ts)) (sym (h .current))
 
-took-kept : (j : Result ℕ Fault) (s t : Clauses) → NumberedBy j s t → Kept t × (t .count ≤ s .count + 1)
+pub took-kept : (j : Result ℕ Fault) (s t : Clauses) → NumberedBy j s t → Kept t × (t .count ≤ s .count + 1)
 took-kept (Err f) s t h = absurd h
 took-kept (Ok c) s t h = (h .kept, h .counts)
 

@@ -154,3 +154,8 @@ pub record Stepped (r q : Reader) : Type 0 where
   pub means : meaning q ≡ meaning r
   pub pos : q .pos ≡ r .pos + 1
   pub text : q .text .now ≡ r .text .now
+
+-- the text says these clauses, for this many nets
+pub record Says (a : Answer) (p : Problem) (s : Clauses) : Type 0 where
+  pub answer : a ≡ Ok (record { nets = p .nets; clauses = done s })
+  pub kept : Kept s

@@ -5,8 +5,10 @@ ghost use lib.ListN.{length, getD};
 ghost use Rattle.std.specs.Of.Vec.{vec-items};
 ghost use Rattle.std.specs.Results.{Cases};
 ghost use Rattle.std.specs.declared.option.Option.the-variants.{Some, None};
-ghost use Rattle.dimacs.specs.Text.{headed, lines, plain, placed, headerOf, limited, Answer};
-ghost use Rattle.dimacs.specs.Machine.{classOf, meaning, Kept, Sane, Stepped, Stops, Numbered, Headed, Refuses};
+ghost use Rattle.dimacs.specs.Text.{headed, lines, plain};
+ghost use mathlib.Core.List.{[]};
+ghost use Rattle.std.specs.declared.result.Result.the-variants.{Ok};
+ghost use Rattle.dimacs.specs.Machine.{classOf, done, endedFrom, meaning, Kept, Says, Sane, Stepped, Stops, Numbered, Headed, Refuses};
 use crate::clauses::Clauses;
 use crate::clauses::judge;
 use crate::error::ReadError;
@@ -14,8 +16,10 @@ use crate::header::read_header;
 use crate::problem::Problem;
 use faults::Fault;
 use faults::FaultFromReader;
+use faults::FaultFromSheet;
 use faults::Located;
 use faults::ReaderFault;
+use faults::SheetFault;
 use std::alloc::Global;
 
 // What the reader is in.
@@ -98,6 +102,26 @@ fn take_header(token: &[u8], line: usize) -> Result<Problem, ReadError>
         return Err(refused(line, ReaderFault::HeaderLimit));
     }
     Ok(problem)
+}
+
+// Judges a text at its end, which is on this line: no clause is open, there are as many as declared, and their words fit the store space.
+fn close(
+    problem: Problem,
+    clauses: Clauses,
+    space: usize,
+    line: usize,
+) -> Result<(Problem, Clauses), ReadError>
+    requires { ⌜ Kept clauses ⌝ }
+    ensures { λ r. ⌜ Cases r (λ x. Says (endedFrom problem space line (done clauses) (vec-items (clauses .current)) (Ok [])) (x .0) (x .1)) (λ e. Stops (endedFrom problem space line (done clauses) (vec-items (clauses .current)) (Ok [])) e) ⌝ }
+{
+    if !clauses.current.is_empty() || clauses.count != problem.clauses as usize {
+        return Err(refused(line, ReaderFault::ClauseCount));
+    }
+    if clauses.words.len() > space.min(30_000) {
+        let fault = SheetFault::StoreFull.into();
+        return Err(ReadError::Refused(Located { line, fault }));
+    }
+    Ok((problem, clauses))
 }
 
 impl<'a> Reader<'a> {
@@ -233,5 +257,36 @@ impl<'a> Reader<'a> {
             None => self.step_top(byte),
             Some(problem) => self.step_body(problem, byte),
         }
+    }
+
+    // All bytes are read: what has begun ends here, and the whole is judged.
+    pub(crate) fn finish(self) -> Result<(Problem, Clauses), ReadError>
+        requires sane { ⌜ Sane self ⌝ }
+        requires done { ⌜ self .pos ≡ length (now (self .text)) ⌝ }
+        ensures { λ r. ⌜ Cases r (λ x. Says (meaning (self .entry)) (x .0) (x .1)) (λ e. Stops (meaning (self .entry)) e) ⌝ }
+    {
+        let Reader {
+            text,
+            space,
+            pos,
+            start,
+            line,
+            state,
+            problem,
+            mut clauses,
+        } = self;
+        let token = &text[start..pos];
+        let Some(problem) = problem else {
+            let State::Header = state else {
+                return Err(refused(line, ReaderFault::HeaderForm));
+            };
+            let problem = take_header(token, line)?;
+            return close(problem, clauses, space, line);
+        };
+        if let State::Number = state {
+            take_number(&mut clauses, problem, token, line)?;
+            return close(problem, clauses, space, line);
+        }
+        close(problem, clauses, space, line)
     }
 }

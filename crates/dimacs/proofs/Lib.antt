@@ -8,3 +8,5 @@ pub mod Bytes
 pub mod Stepping
 pub mod Arms
 pub mod Ending
+pub mod Within
+pub mod Readings

@@ -2,3 +2,4 @@ pub mod Numbers
 pub mod Text
 pub mod Written
 pub mod Machine
+pub mod Results

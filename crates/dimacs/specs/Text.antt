@@ -1,7 +1,8 @@
 -- What a text says: its lines without the comments, the header line, then the numbers of the other lines, cut at each 0. Assumes nothing.
 use mathlib.Core.Bool.{Bool, true, false, cond, _&&_}
 use mathlib.Core.List.{List, [], _∷_, _++_, map}
-use Prim.Native.Nat.{ℕ, _+_, _/_, min}
+use mathlib.Core.Path.{_≡_}
+use Prim.Native.Nat.{ℕ, _+_, _/_, _≤_, min}
 use lib.Chars.{codes as bytes}
 use lib.Dec.{eqb, leb, ltb}
 use lib.ListN.{length, take, drop}
@@ -16,7 +17,7 @@ use Rattle.faults.specs.declared.SheetFault.the-variants.{NoSuchVariable, TooMa
 use Rattle.faults.specs.declared.Fault.{Fault}
 use Rattle.faults.specs.declared.Fault.the-variants.{Reader, Sheet}
 use Rattle.faults.specs.declared.Located.{Located}
-use Rattle.cnf.specs.Words.{encode}
+use Rattle.cnf.specs.Words.{encode, goods}
 use Rattle.dimacs.specs.declared.problem.Problem.{Problem}
 use Rattle.dimacs.specs.Numbers.{isFeed, isSpace, isBlank, isComment, cut, filled, numeral, number}
 
@@ -139,3 +140,13 @@ headed space end (l ∷ ls) = limited (l .line) (headerOf (l .bytes)) (λ h. bod
 abbrev pub textSays : ℕ → List ℕ → Answer
 textSays space text =
     cond (leb (length text) 60000) (headed space (length (lines text)) (plain 1 (lines text))) (fault 1 (Reader TextTooLong))
+
+-- what a text says is within the limits
+pub record Limits (space : ℕ) (c : Contents) : Type 0 where
+  pub nets : c .nets ≤ 2000
+  pub count : length (c .clauses) ≤ 8000
+  pub good : goods (c .nets) (c .clauses) ≡ true
+  pub room : length (encode (c .clauses)) ≤ min space 30000
+
+abbrev pub Said-within : Type 0
+Said-within = (space : ℕ) (text : List ℕ) (c : Contents) → textSays space text ≡ Ok c → Limits space c

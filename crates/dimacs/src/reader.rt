@@ -66,7 +66,7 @@ fn class_of(b: u8) -> Class
 }
 
 // The fault of a reader, with its line.
-fn refused(line: usize, fault: ReaderFault) -> ReadError
+pub(crate) fn refused(line: usize, fault: ReaderFault) -> ReadError
     ensures { λ r. ⌜ r ≡ ReadError.Refused (record { line = line; fault = Fault.Reader fault }) ⌝ }
 {
     ReadError::Refused(Located {

@@ -200,11 +200,11 @@ impl<'a> Reader<'a> {
                 Ok(())
             }
             (State::LineStart, Class::Feed) => {
-                self.line += 1;
+                self.line += 1; // the line was empty
                 Ok(())
             }
             (State::LineStart, Class::Blank) => {
-                self.state = State::Gap;
+                self.state = State::Gap; // a `c` from here on begins no comment
                 Ok(())
             }
             (State::LineStart, Class::Other) => {

@@ -1,0 +1,3 @@
+// Clause lists in words: tests of their form, their truth under bits, and a table applied to them in place.
+pub mod check;
+pub mod eval;

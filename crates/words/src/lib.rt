@@ -1,3 +1,4 @@
 // Clause lists in words: tests of their form, their truth under bits, and a table applied to them in place.
+pub mod apply;
 pub mod check;
 pub mod eval;

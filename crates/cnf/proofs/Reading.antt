@@ -134,7 +134,7 @@ module _ (m : ℕ) (ws : List ℕ) (i : ℕ) (h : i < length ws) where
 pub record Clause-at (ws : List ℕ) (i end : ℕ) : Type 0 where
   pub later : i < end
   pub within : end ≤ length ws
-  pub few : end - (i + 1) ≤ getD ws i 0
+  pub size : length (take (end - (i + 1)) (drop (i + 1) ws)) ≡ end - (i + 1)
   pub parts : read (drop i ws) ≡ take (end - (i + 1)) (drop (i + 1) ws) ∷ read (drop end ws)
 
 pub clause-at : (ws : List ℕ) (i end : ℕ) → i < length ws → end ≡ i + 1 + min (getD ws i 0) (length ws - i - 1) → Clause-at ws i end
@@ -146,7 +146,7 @@ clause-at ws i end h e = elim (cases-lt (length ws - i - 1) (getD ws i 0)) [ inl
         record {
           later = omega arith;
           within = omega arith;
-          few = omega arith;
+          size = length-take-le (end - (i + 1)) (drop (i + 1) ws) (omega (arith, length-drop (i + 1) ws));
           parts = read-more ws i h ∙ ap (λ x. take x (drop (i + 1) ws) ∷ read (drop (i + 1 + getD ws i 0) ws)) z
               ∙ ap (λ x. take (end - (i + 1)) (drop (i + 1) ws) ∷ read (drop x ws)) (sym e);
         }
@@ -158,7 +158,7 @@ clause-at ws i end h e = elim (cases-lt (length ws - i - 1) (getD ws i 0)) [ inl
         record {
           later = omega arith;
           within = omega arith;
-          few = omega arith;
+          size = length-take-le (end - (i + 1)) (drop (i + 1) ws) (omega (arith, length-drop (i + 1) ws));
           parts = read-more ws i h ∙ ap (λ x. x ∷ read (drop (i + 1 + getD ws i 0) ws)) (take-all (getD ws i 0) b (omega arith) ∙ sym (take-all (end - (i + 1)) b (omega arith)))
               ∙ ap (λ x. take (end - (i + 1)) b ∷ read x) (drop-all (i + 1 + getD ws i 0) ws (omega arith) ∙ sym (drop-all end ws (omega arith)));
         }

@@ -1,6 +1,6 @@
 // The truth of clauses under bits, which are the values of the variables from 1 on.
 ghost use mathlib.Core.Path.{_≡_};
-ghost use Prim.Native.Nat.{_+_, _-_, _<_, min};
+ghost use Prim.Native.Nat.{_+_, _-_, _<_, _≤_, min};
 ghost use lib.ListN.{length, getD};
 ghost use Rattle.cnf.specs.Truth.{told, clause, clauses};
 ghost use Rattle.cnf.specs.Words.{read};
@@ -21,7 +21,8 @@ pub fn clause_true(body: &[u16], bits: &[bool]) -> bool
 // Where the clause whose count is at i ends; one whose count goes beyond the list ends with it.
 pub(crate) fn clause_end(list: &[u16], i: usize) -> usize
     requires { ⌜ i < length (now list) ⌝ }
-    ensures { λ r. ⌜ r ≡ i + 1 + min (getD (now (list .entry)) i 0) (length (now (list .entry)) - i - 1) ⌝ }
+    ensures ends { λ r. ⌜ r ≡ i + 1 + min (getD (now (list .entry)) i 0) (length (now (list .entry)) - i - 1) ⌝ }
+    ensures near { λ r. ⌜ r ≤ i + 65536 ⌝ }
 {
     let count = list[i] as usize;
     i + 1 + count.min(list.len() - i - 1)

@@ -8,7 +8,7 @@ use Rattle.words.proofs.eval.satisfied.Needs as need
 
 pub returns-then-not-clause-true : need.returns-then-not-clause-true
 returns-then-not-clause-true c =
-    let p = clause-at (c .args .list .now) (c .loop-i .i) (c .clause-end-end .result) (c .loop-i-test .taken) (c .clause-end-end .ensures) in
+    let p = clause-at (c .args .list .now) (c .loop-i .i) (c .clause-end-end .result) (c .loop-i-test .taken) (c .clause-end-end .ensures .ends) in
     let e = ap (clauses (told (c .args .bits .now))) (p .parts) in
     let i = c .loop-i .inv in
     let f = c .if-not-clause-true .ensures tt in
@@ -16,7 +16,7 @@ returns-then-not-clause-true c =
 
 pub loop-i-again : need.loop-i-again
 loop-i-again c =
-    let p = clause-at (c .args .list .now) (c .loop-i .i) (c .clause-end-end .result) (c .loop-i-test .taken) (c .clause-end-end .ensures) in
+    let p = clause-at (c .args .list .now) (c .loop-i .i) (c .clause-end-end .result) (c .loop-i-test .taken) (c .clause-end-end .ensures .ends) in
     let e = ap (clauses (told (c .args .bits .now))) (p .parts) in
     let i = c .loop-i .inv in
     let f = c .if-not-clause-true .ensures tt in

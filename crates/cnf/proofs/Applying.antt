@@ -1,9 +1,9 @@
 -- The laws of a table that is applied to a clause. Assumes nothing.
-use mathlib.Core.Bool.{Bool, true, false, not, cond, _&&_, _||_}
+use mathlib.Core.Bool.{Bool, true, false, cond, _||_}
 use mathlib.Core.List.{List, [], _∷_, _++_, map}
 use mathlib.Core.Path.{_≡_, refl, sym, ap, _∙_, subst}
-use mathlib.Core.Logic.{_⊎_, inl, inr}
-use Prim.Native.Nat.{ℕ, zero, suc, _≤_, _<_, _+_, _-_, _*_, _/_, _%_}
+use mathlib.Core.Logic.{inl, inr}
+use Prim.Native.Nat.{ℕ, _≤_, _<_, _+_, _/_, _%_}
 use native.Mathlib.Omega.{arith}
 use lib.Dec.{eqb}
 use lib.ListN.{length, getD}
@@ -13,10 +13,9 @@ use Rattle.std.proofs.shelf.Ways.{tells}
 use Rattle.std.specs.declared.option.Option.{Option}
 use Rattle.std.specs.declared.option.Option.the-variants.{Some, None}
 use Rattle.cnf.specs.Truth.{opp, lit, clause}
-use Rattle.cnf.specs.Table.{turn, rep, Tabled, has, put, puts, then′, applied, by, via, Follows, clause-or-true, Own, Extends}
+use Rattle.cnf.specs.Table.{rep, Tabled, has, put, puts, then′, applied, by, via, Follows, clause-or-true, Own, Extends}
 use Rattle.cnf.specs.Laws.{Applies, OwnAll, counted}
 use Rattle.cnf.proofs.Tables.{Holds, puts-keep, puts-true, lit-turn}
-use Rattle.cnf.proofs.Entries.{turn-even, turn-odd}
 
 -- a representative represents itself: of a literal beyond the table too, since that has a constant
 pub rep-rep : (t : List ℕ) → Tabled t → (c : ℕ) → rep t (rep t c) ≡ rep t c
@@ -56,6 +55,20 @@ applied-fewer t c =
     elim (applied (by t) c) as (λ o. Holds (λ x. length x ≤ 0 + length c) o → counted o ≤ length c) [ None ↦ λ _. omega arith | Some x ↦ λ h. omega arith ]
     (puts-keep (by t) (λ n x. length x ≤ n) (λ _. Unit {0}) (λ _. Unit {0}) (λ _ _ _. (tt, tt)) (λ n x h. omega arith)
     (λ n x d h _ _ _. omega (arith, length-push x d)) 0 c [] tt (omega arith))
+
+-- what putting a literal gives, by its two tests
+module _ (out : List ℕ) (d : ℕ) where
+  pub put-drops : (eqb d 0 || has out d) ≡ true → put out d ≡ Some out
+  put-drops h = ap (λ b. cond b (Some out) (cond (eqb d 1 || has out (opp d)) None (Some (out ++ d ∷ [])))) h
+
+  put-past : (eqb d 0 || has out d) ≡ false → put out d ≡ cond (eqb d 1 || has out (opp d)) None (Some (out ++ d ∷ []))
+  put-past h = ap (λ b. cond b (Some out) (cond (eqb d 1 || has out (opp d)) None (Some (out ++ d ∷ [])))) h
+
+  pub put-vanishes : (eqb d 0 || has out d) ≡ false → (eqb d 1 || has out (opp d)) ≡ true → put out d ≡ None
+  put-vanishes h k = put-past h ∙ ap (λ b. cond b None (Some (out ++ d ∷ []))) k
+
+  pub put-adds : (eqb d 0 || has out d) ≡ false → (eqb d 1 || has out (opp d)) ≡ false → put out d ≡ Some (out ++ d ∷ [])
+  put-adds h k = put-past h ∙ ap (λ b. cond b None (Some (out ++ d ∷ []))) k
 
 -- the codes put one after the other
 abbrev fill : List ℕ → List ℕ → Option (List ℕ)
@@ -154,13 +167,8 @@ has-map g [] x h = h
 has-map g (c ∷ xs) x h =
     elim (cases-eq c x) [ inl e ↦ (let a = ap g e in grind (arith, tells)) | inr n ↦ grind (arith, tells, has-map g xs x) ]
 
-put-seen : (out : List ℕ) (d : ℕ) → (eqb d 0 || has out d) ≡ true → put out d ≡ Some out
-put-seen out d h = ap (λ b. cond b (Some out) (cond (eqb d 1 || has out (opp d)) None (Some (out ++ d ∷ [])))) h
-
 put-gone : (out : List ℕ) (d : ℕ) → Clean out → (eqb d 1 || has out (opp d)) ≡ true → put out d ≡ None
-put-gone out d w h =
-    let n : (eqb d 0 || has out d) ≡ false = new in
-    ap (λ b. cond b (Some out) (cond (eqb d 1 || has out (opp d)) None (Some (out ++ d ∷ [])))) n ∙ ap (λ b. cond b None (Some (out ++ d ∷ []))) h
+put-gone out d w h = put-vanishes out d new h
   where
     new : (eqb d 0 || has out d) ≡ false
     new =
@@ -180,7 +188,7 @@ clean-none = record { plain = refl; single = λ _ _. refl }
 module _ (g : ℕ → ℕ) (zeroed : g 0 ≡ 0) (oned : g 1 ≡ 1) (turned : (x : ℕ) → g (opp x) ≡ opp (g x)) where
   seen-again : (out : List ℕ) (x : ℕ) → (eqb x 0 || has out x) ≡ true → (o : List ℕ) → Filled [] (map g out) o → put o (g x) ≡ Some o
   seen-again out x h o w =
-      put-seen o (g x)
+      put-drops o (g x)
       (elim (cases-eq x 0) [
         | inl e ↦ (let a = ap g e in grind (arith, tells))
         | inr n ↦ (let i : has out x ≡ true = grind (arith, tells) in w .each (g x) (has-map g out x i))

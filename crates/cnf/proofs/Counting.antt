@@ -2,16 +2,15 @@
 use mathlib.Core.Bool.{Bool, true, false, not, cond, _&&_, _||_, Bool·beq}
 use mathlib.Core.List.{List, [], _∷_, _++_, map}
 use mathlib.Core.Path.{_≡_, refl, sym, ap, _∙_}
-use mathlib.Core.Logic.{_⊎_, inl, inr}
-use Prim.Native.Nat.{ℕ, zero, suc, _+_, _*_, _/_, _%_, _≤_, _<_}
+use mathlib.Core.Logic.{inl, inr}
+use Prim.Native.Nat.{ℕ, zero, suc, _+_, _/_, _%_, _≤_, _<_}
 use native.Mathlib.Omega.{arith}
 use lib.Dec.{eqb, leb}
 use lib.ListN.{length, getD}
-use Rattle.std.specs.Orderings.{Decides}
 use Rattle.std.specs.shelf.Lists.{kept-by}
 use Rattle.std.proofs.shelf.Tests.{and-parts, and-from, both-ways, cases-lt}
 use Rattle.std.proofs.shelf.Ways.{tells}
-use Rattle.cnf.specs.Truth.{told, lit, clause, clauses, inside, Model, Equal}
+use Rattle.cnf.specs.Truth.{told, lit, clause, clauses, inside, Equal}
 use Rattle.cnf.specs.Words.{good, goods}
 use Rattle.cnf.specs.Finite.{rows, models, passes, equal?, backbone?, first}
 use Rattle.cnf.specs.Laws.{Equal-means, Backbone-means, Backbone-equals-true}

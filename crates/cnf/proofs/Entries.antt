@@ -2,7 +2,7 @@
 use mathlib.Core.Bool.{Bool, true, false, cond}
 use mathlib.Core.List.{List, [], _∷_, _++_}
 use mathlib.Core.Path.{_≡_, refl, sym, ap, _∙_}
-use mathlib.Core.Logic.{_⊎_, inl, inr}
+use mathlib.Core.Logic.{inl, inr}
 use Prim.Native.Nat.{ℕ, zero, suc, _≤_, _<_, _+_, _-_, _*_, _/_, _%_}
 use native.Mathlib.Omega.{arith}
 use lib.Dec.{eqb}
@@ -14,7 +14,6 @@ use Rattle.std.specs.declared.option.Option.{Option}
 use Rattle.std.specs.declared.option.Option.the-variants.{Some, None}
 use Rattle.std.proofs.shelf.Lists.{getD-past, getD-read}
 use Rattle.std.proofs.shelf.Tests.{cases-eq, eq-eqb, ne-eqb}
-use Rattle.std.proofs.shelf.Ways.{tells}
 use Rattle.std.specs.Of.Vec.{vec-items}
 use Rattle.cnf.specs.declared.table.Table.{Table}
 use Rattle.cnf.specs.Truth.{opp, told}
@@ -106,8 +105,8 @@ fresh-entry u (suc k) zero h = omega arith
 fresh-entry u (suc k) (suc v) h = omega (arith, fresh-entry (u + 1) k v (omega arith))
 
 -- a loop's step
-pub fresh-more : (u k : ℕ) → freshFrom u k ++ 2 * (u + k) ∷ [] ≡ freshFrom u (k + 1)
-fresh-more u k = let e : suc k ≡ k + 1 = omega arith in step u k ∙ ap (freshFrom u) e
+pub fresh-more : (v : ℕ) → freshFrom 0 v ++ 2 * v ∷ [] ≡ freshFrom 0 (v + 1)
+fresh-more v = let e : suc v ≡ v + 1 = omega arith in let z : v ≡ 0 + v = omega arith in ap (λ x. freshFrom 0 v ++ 2 * x ∷ []) z ∙ step 0 v ∙ ap (freshFrom 0) e
   where
     step : (u k : ℕ) → freshFrom u k ++ 2 * (u + k) ∷ [] ≡ freshFrom u (suc k)
     step u zero = let e : u + 0 ≡ u = omega arith in ap (λ x. 2 * x ∷ []) e

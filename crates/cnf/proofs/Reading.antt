@@ -1,8 +1,8 @@
 -- Words and the clauses that they are. Assumes nothing.
-use mathlib.Core.Bool.{Bool, true, false, cond, _&&_}
+use mathlib.Core.Bool.{true, false, _&&_}
 use mathlib.Core.List.{List, [], _∷_, _++_}
 use mathlib.Core.Path.{_≡_, refl, sym, ap, _∙_}
-use mathlib.Core.Logic.{_⊎_, inl, inr}
+use mathlib.Core.Logic.{inl, inr}
 use Prim.Native.Nat.{ℕ, zero, suc, min, _≤_, _<_, _+_, _-_}
 use native.Mathlib.Nat.{min-eq-left, min-eq-right}
 use native.Mathlib.Omega.{arith}
@@ -162,3 +162,18 @@ clause-at ws i end h e = elim (cases-lt (length ws - i - 1) (getD ws i 0)) [ inl
           parts = read-more ws i h ∙ ap (λ x. x ∷ read (drop (i + 1 + getD ws i 0) ws)) (take-all (getD ws i 0) b (omega arith) ∙ sym (take-all (end - (i + 1)) b (omega arith)))
               ∙ ap (λ x. take (end - (i + 1)) b ∷ read x) (drop-all (i + 1 + getD ws i 0) ws (omega arith) ∙ sym (drop-all end ws (omega arith)));
         }
+
+-- what a well formed list has at i
+pub record Clause-here (m : ℕ) (ws : List ℕ) (i : ℕ) : Type 0 where
+  pub fits : i + 1 + getD ws i 0 ≤ length ws
+  pub known : inside m (take (getD ws i 0) (drop (i + 1) ws)) ≡ true
+  pub good : well m (drop (i + 1 + getD ws i 0) ws) ≡ true
+
+pub clause-here : (m : ℕ) (ws : List ℕ) (i : ℕ) → i < length ws → well m (drop i ws) ≡ true → Clause-here m ws i
+clause-here m ws i h e =
+    let c = well-cons m (getD ws i 0) (drop (i + 1) ws) (sym (ap (well m) (drop-more ws i 0 h)) ∙ e) in
+    record {
+      fits = omega (arith, c .within, length-drop (i + 1) ws);
+      known = c .known;
+      good = ap (well m) (sym (drop-drop (getD ws i 0) (i + 1) ws)) ∙ c .rest;
+    }

@@ -4,3 +4,5 @@ pub mod laws;
 pub mod literal;
 pub mod open;
 pub mod table;
+#[cfg(test)]
+mod tests;

@@ -81,7 +81,7 @@ impl Table {
         if variable(code) >= self.entries.len() {
             return None;
         }
-        Some(representative(self.entries.as_slice(), code))
+        Some(representative(self.entries(), code))
     }
 
     // What the variable v is, if it is one of the nets.

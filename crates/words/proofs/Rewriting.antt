@@ -1,32 +1,13 @@
 -- A clause that is rewritten in place, over values. Assumes nothing.
-use mathlib.Core.Bool.{Bool, true, false}
 use mathlib.Core.List.{List, [], _∷_, _++_}
 use mathlib.Core.Path.{_≡_, refl, sym, ap, _∙_}
-use Prim.Native.Nat.{ℕ, _+_, _-_, _/_, _<_, _≤_}
+use Prim.Native.Nat.{ℕ, _+_, _/_, _<_, _≤_}
 use native.Mathlib.Omega.{arith}
 use lib.ListN.{length, getD, take, drop, set, length-set}
 use Rattle.std.proofs.shelf.Lists.{at-drop-more, at-drop-all, take-more-set, drop-set-lt, drop-drop, getD-drop}
-use Rattle.std.proofs.shelf.Ways.{tells}
 use Rattle.std.specs.declared.option.Option.{Option}
 use Rattle.std.specs.declared.option.Option.the-variants.{Some, None}
-use Rattle.cnf.specs.Truth.{opp}
-use Rattle.cnf.specs.Table.{turn, has, put, puts, then′, applied}
-
--- what `put` gives, by the tests
-pub put-zero : (o : List ℕ) (d : ℕ) → d ≡ 0 → put o d ≡ Some o
-put-zero o d e = grind (arith, tells)
-
-pub put-seen : (o : List ℕ) (d : ℕ) → has o d ≡ true → put o d ≡ Some o
-put-seen o d h = grind (arith, tells)
-
-pub put-one : (o : List ℕ) (d : ℕ) → (d ≡ 0 → ⊥) → has o d ≡ false → d ≡ 1 → put o d ≡ None
-put-one o d n h e = grind (arith, tells)
-
-pub put-both : (o : List ℕ) (d : ℕ) → (d ≡ 0 → ⊥) → has o d ≡ false → has o (opp d) ≡ true → put o d ≡ None
-put-both o d n h e = grind (arith, tells)
-
-pub put-new : (o : List ℕ) (d : ℕ) → (d ≡ 0 → ⊥) → has o d ≡ false → (d ≡ 1 → ⊥) → has o (opp d) ≡ false → put o d ≡ Some (o ++ d ∷ [])
-put-new o d n h i j = grind (arith, tells)
+use Rattle.cnf.specs.Table.{turn, put, puts, then′, applied}
 
 -- `here` is the clause as it stands, s literals of it are done, and n are kept
 pub record Rewriting (f : ℕ → ℕ) (body here : List ℕ) (n s : ℕ) : Type 0 where

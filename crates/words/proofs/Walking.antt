@@ -1,18 +1,18 @@
 -- A clause list that is rewritten in place, over values. Assumes nothing.
-use mathlib.Core.Bool.{Bool, true, false}
-use mathlib.Core.List.{List, [], _∷_, _++_}
-use mathlib.Core.Path.{_≡_, refl, sym, ap, _∙_}
-use Prim.Native.Nat.{ℕ, suc, min, _+_, _-_, _/_, _*_, _<_, _≤_}
+use mathlib.Core.Bool.{true}
+use mathlib.Core.List.{List, _∷_, _++_}
+use mathlib.Core.Path.{_≡_, sym, ap, _∙_, subst}
+use Prim.Native.Nat.{ℕ, suc, _+_, _-_, _≤_}
 use native.Mathlib.Omega.{arith}
 use borrow.Rule.Slice.PartMut.{putMid}
-use lib.ListN.{length, getD, take, drop, set, length-set, length-drop}
+use lib.ListN.{length, take, drop, set, length-set, length-drop}
 use lib.Seq.{paste}
-use Rattle.std.proofs.shelf.Lists.{append-assoc, append-nil, length-append, length-take-le, take-take, take-at, take-append-le, take-append-drop, take-set-le, drop-at, drop-all, drop-drop, drop-set-lt, set-split}
+use Rattle.std.proofs.shelf.Lists.{append-assoc, append-nil, length-append, length-take-le, take-take, take-at, take-append-le, take-append-drop, drop-at, drop-all, drop-drop, drop-set-lt, set-split}
 use Rattle.std.proofs.shelf.Parts.{take-putMid-below, drop-putMid, drop-append-drop}
 use Rattle.std.specs.declared.option.Option.the-variants.{Some, None}
 use Rattle.cnf.specs.Words.{encode, read, well}
 use Rattle.cnf.specs.Table.{applied, applieds, before, by, Tabled}
-use Rattle.cnf.proofs.Reading.{Clause-at, clause-at, read-nil, read-means, well-encode}
+use Rattle.cnf.proofs.Reading.{Clause-at, read-nil, read-means, well-encode}
 use Rattle.cnf.proofs.Tables.{applieds-good}
 use Rattle.cnf.proofs.Entries.{entries-from-tabled}
 
@@ -121,9 +121,10 @@ module _ (f : ℕ → ℕ) (words here : List ℕ) (i j : ℕ) (w : Walking f wo
           ∙ ap (λ x. take j here ++ encode (applieds f x)) (sym clauses-here) ∙ w .done;
     }
 
+    -- the n literals that are left were moved down, and their number was written before them
     pub walking-more : (n : ℕ) (after : List ℕ) → n ≤ end - (i + 1) → Some (take n ys) ≡ applied f part → after ≡ paste mid (j + 1) (drop (i + 1) mid) (i + 1 + n - (i + 1))
-        → Walking f words (set after j n) end (j + 1 + n)
-    walking-more n after h e q =
+        → (last : ℕ) → last ≡ j + 1 + n → Walking f words (set after j n) end last
+    walking-more n after h e q last el =
         let z : i + 1 + n - (i + 1) ≡ n = omega arith in
         let is : after ≡ paste mid (j + 1) (drop (i + 1) mid) n = q ∙ ap (paste mid (j + 1) (drop (i + 1) mid)) z in
         let down : j + 1 ≤ i + 1 = omega (arith, w .fewer) in
@@ -134,7 +135,7 @@ module _ (f : ℕ → ℕ) (words here : List ℕ) (i j : ℕ) (w : Walking f wo
         let front : take j after ≡ take j here = ap (take j) is ∙ moved-below mid (i + 1) (j + 1) n down room j (omega arith) ∙ mid-below in
         let kept : take n (drop (j + 1) after) ≡ take n ys
         = ap (λ xs. take n (drop (j + 1) xs)) is ∙ moved-here mid (i + 1) (j + 1) n down room ∙ part-front (i + 1) (end - (i + 1)) here ys (omega (arith, c .later, c .within)) l n h in
-        record {
+        let all : Walking f words (set after j n) end (j + 1 + n) = record {
           size = length-set after j n ∙ la;
           fewer = omega (arith, w .fewer, c .later);
           inner = omega (arith, c .within, w .size);
@@ -145,7 +146,8 @@ module _ (f : ℕ → ℕ) (words here : List ℕ) (i j : ℕ) (w : Walking f wo
               ∙ ap (λ x. take j here ++ x ∷ (take n ys ++ encode rest)) (sym (length-take-le n ys (omega arith)))
               ∙ ap (λ o. take j here ++ encode (before o rest)) e
               ∙ ap (λ x. take j here ++ encode (applieds f x)) (sym clauses-here) ∙ w .done;
-        }
+        } in
+        subst (Walking f words (set after j n) end) (sym el) all
 
 -- a table's list stays well formed
 pub applied-well : (t words : List ℕ) (m : ℕ) → well m words ≡ true → length t ≡ m + 1 → Tabled t → well m (encode (applieds (by t) (read words))) ≡ true

@@ -11,6 +11,11 @@ use crate::eval::clause_end;
 use cnf::literal::opposite;
 use cnf::table::representative;
 
+// The literals of the constant.
+const FALSE: u16 = 0;
+
+const TRUE: u16 = 1;
+
 // Whether the code is among the codes.
 pub fn has_code(codes: &[u16], code: u16) -> bool
     ensures { λ r. ⌜ r ≡ has (now (codes .entry)) code ⌝ }
@@ -32,8 +37,8 @@ pub fn apply(table: &[u16], body: &mut [u16]) -> Option<usize>
     let mut n = 0;
     for s in 0..body.len() {
         let d = representative(table, body[s]);
-        if d != 0 && !has_code(&body[..n], d) {
-            if d == 1 || has_code(&body[..n], opposite(d)) {
+        if d != FALSE && !has_code(&body[..n], d) {
+            if d == TRUE || has_code(&body[..n], opposite(d)) {
                 return None;
             }
             body[n] = d;

@@ -2,3 +2,5 @@
 pub mod apply;
 pub mod check;
 pub mod eval;
+#[cfg(test)]
+mod tests;

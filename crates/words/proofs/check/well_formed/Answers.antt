@@ -1,4 +1,4 @@
-use mathlib.Core.Path.{_≡_, sym, _∙_}
+use mathlib.Core.Path.{sym, _∙_}
 use native.Mathlib.Omega.{arith}
 use Rattle.std.proofs.shelf.Lists.{at-drop-all}
 use Rattle.cnf.specs.Words.{well}
@@ -12,20 +12,20 @@ returns-then-count-gt-MAX-LITERALS c =
     let ws = c .args .list .now in
     let i = c .loop-i .i in
     sym (sym (c .loop-i .inv) ∙ elim (c .then-count-gt-MAX-LITERALS .came) [
-      | then-count-gt-MAX-LITERALS·by·then-count-gt-MAX-LITERALS w ↦ well-long m ws i (c .loop-i-test .taken) (w .if-count-gt-MAX-LITERALS .taken)
+      | then-count-gt-MAX-LITERALS·by·then-count-gt-MAX-LITERALS w ↦ well-long m ws i (c .loop-i-test .taken) (omega arith)
       | then-count-gt-MAX-LITERALS·by·else-count-gt-MAX-LITERALS·then-count-list w ↦ well-less m ws i (c .loop-i-test .taken) (omega arith)
     ])
 
 pub returns-then-not-all-named : need.returns-then-not-all-named
 returns-then-not-all-named c =
-    let e = well-more (c .args .m) (c .args .list .now) (c .loop-i .i) (c .loop-i-test .taken) (c .if-count-gt-MAX-LITERALS .left) (omega arith) in
+    let e = well-more (c .args .m) (c .args .list .now) (c .loop-i .i) (c .loop-i-test .taken) (omega arith) (omega arith) in
     let i = c .loop-i .inv in
     let f = c .if-not-all-named .ensures tt in
     grind arith
 
 pub loop-i-again : need.loop-i-again
 loop-i-again c =
-    let e = well-more (c .args .m) (c .args .list .now) (c .loop-i .i) (c .loop-i-test .taken) (c .if-count-gt-MAX-LITERALS .left) (omega arith) in
+    let e = well-more (c .args .m) (c .args .list .now) (c .loop-i .i) (c .loop-i-test .taken) (omega arith) (omega arith) in
     let i = c .loop-i .inv in
     let f = c .if-not-all-named .ensures tt in
     grind arith

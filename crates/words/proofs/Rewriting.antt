@@ -45,10 +45,12 @@ module _ (f : ℕ → ℕ) (body here : List ℕ) (n s : ℕ) (w : Rewriting f b
       pub rewriting-skip : put (take n here) d ≡ Some (take n here) → Rewriting f body here n (s + 1)
       rewriting-skip h = record { size = w .size; fewer = omega (arith, w .fewer); rest = rest-on; clause = turned (Some (take n here)) h }
 
-      pub rewriting-push : put (take n here) d ≡ Some (take n here ++ d ∷ []) → Rewriting f body (set here n d) (n + 1) (s + 1)
-      rewriting-push h = record {
-        size = length-set here n d ∙ w .size;
-        fewer = omega (arith, w .fewer);
-        rest = drop-set-lt (s + 1) here n d (omega (arith, w .fewer)) ∙ rest-on;
-        clause = ap (λ z. puts f z (drop (s + 1) body)) (take-more-set here n d (omega (arith, w .size, w .fewer))) ∙ turned (Some (take n here ++ d ∷ [])) h;
-      }
+      pub rewriting-push : put (take n here) d ≡ Some (take n here ++ d ∷ []) → (place : ℕ) → place ≡ n → Rewriting f body (set here place d) (n + 1) (s + 1)
+      rewriting-push h place e =
+          let pushed : Rewriting f body (set here n d) (n + 1) (s + 1) = record {
+            size = length-set here n d ∙ w .size;
+            fewer = omega (arith, w .fewer);
+            rest = drop-set-lt (s + 1) here n d (omega (arith, w .fewer)) ∙ rest-on;
+            clause = ap (λ z. puts f z (drop (s + 1) body)) (take-more-set here n d (omega (arith, w .size, w .fewer))) ∙ turned (Some (take n here ++ d ∷ [])) h;
+          } in
+          rw e pushed

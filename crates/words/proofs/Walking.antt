@@ -1,7 +1,7 @@
 -- A clause list that is rewritten in place, over values. Assumes nothing.
 use mathlib.Core.Bool.{true}
 use mathlib.Core.List.{List, _∷_, _++_}
-use mathlib.Core.Path.{_≡_, sym, ap, _∙_, subst}
+use mathlib.Core.Path.{_≡_, sym, ap, _∙_}
 use Prim.Native.Nat.{ℕ, suc, _+_, _-_, _≤_}
 use native.Mathlib.Omega.{arith}
 use borrow.Rule.Slice.PartMut.{putMid}
@@ -123,8 +123,8 @@ module _ (f : ℕ → ℕ) (words here : List ℕ) (i j : ℕ) (w : Walking f wo
 
     -- the n literals that are left were moved down, and their number was written before them
     pub walking-more : (n : ℕ) (after : List ℕ) → n ≤ end - (i + 1) → Some (take n ys) ≡ applied f part → after ≡ paste mid (j + 1) (drop (i + 1) mid) (i + 1 + n - (i + 1))
-        → (last : ℕ) → last ≡ j + 1 + n → Walking f words (set after j n) end last
-    walking-more n after h e q last el =
+        → (count last : ℕ) → count ≡ n → last ≡ j + 1 + n → Walking f words (set after j count) end last
+    walking-more n after h e q count last ec el =
         let z : i + 1 + n - (i + 1) ≡ n = omega arith in
         let is : after ≡ paste mid (j + 1) (drop (i + 1) mid) n = q ∙ ap (paste mid (j + 1) (drop (i + 1) mid)) z in
         let down : j + 1 ≤ i + 1 = omega (arith, w .fewer) in
@@ -147,7 +147,7 @@ module _ (f : ℕ → ℕ) (words here : List ℕ) (i j : ℕ) (w : Walking f wo
               ∙ ap (λ o. take j here ++ encode (before o rest)) e
               ∙ ap (λ x. take j here ++ encode (applieds f x)) (sym clauses-here) ∙ w .done;
         } in
-        subst (Walking f words (set after j n) end) (sym el) all
+        rw (ec, el) all
 
 -- a table's list stays well formed
 pub applied-well : (t words : List ℕ) (m : ℕ) → well m words ≡ true → length t ≡ m + 1 → Tabled t → well m (encode (applieds (by t) (read words))) ≡ true

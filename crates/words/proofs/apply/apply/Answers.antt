@@ -46,7 +46,7 @@ loop-s-again c =
           let g = w .has-code-else-d-eq-TRUE .ensures in
           let e = w .if-has-code .left in
           rw (w .body-is, w .n-is)
-          (rewriting-push _ _ _ _ _ (c .loop-s .inv) (c .loop-s-test .taken) d (c .representative-d .ensures) (put-adds out d (grind (arith, tells)) (grind (arith, tells)))))
+          (rewriting-push _ _ _ _ _ (c .loop-s .inv) (c .loop-s-test .taken) d (c .representative-d .ensures) (put-adds out d (grind (arith, tells)) (grind (arith, tells))) _ (omega arith)))
       | else-d-ne-FALSE w ↦
           (let dropped : (eqb d 0 || has out d) ≡ true = elim (w .else-d-ne-FALSE .came) [
             | else-d-ne-FALSE·by·then-d-ne-FALSE·else-not-has-code w′ ↦ (let h = w′ .has-code .ensures in let t = w′ .if-not-has-code .left in grind (arith, tells))

@@ -14,7 +14,7 @@ pub loop-i-again-in-Some : need.loop-i-again-in-Some
 loop-i-again-in-Some c =
     let p = clause-at (c .loop-i .words) (c .loop-i .i) (c .clause-end-end .result) (c .loop-i-test .taken) (c .clause-end-end .ensures .ends) in
     walking-more _ _ _ _ _ (c .loop-i .inv) _ (c .apply .last .body) p (c .apply .kept .body ∙ p .size) (c .in-Some .n) (c .copy-within .last .self)
-    (omega (arith, p .size, c .in-Some .ensures tt .within)) (c .in-Some .ensures tt .applies .exact) (c .copy-within .ensures .after) _ (omega arith)
+    (omega (arith, p .size, c .in-Some .ensures tt .within)) (c .in-Some .ensures tt .applies .exact) (c .copy-within .ensures .after) _ _ (omega arith) (omega arith)
 
 pub loop-i-again : need.loop-i-again
 loop-i-again c =

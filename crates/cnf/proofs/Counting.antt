@@ -2,19 +2,18 @@
 use mathlib.Core.Bool.{Bool, true, false, not, cond, _&&_, _||_, Bool·beq}
 use mathlib.Core.List.{List, [], _∷_, _++_, map}
 use mathlib.Core.Path.{_≡_, refl, sym, ap, _∙_}
-use mathlib.Core.Logic.{_⊎_, inl, inr}
-use Prim.Native.Nat.{ℕ, zero, suc, _+_, _*_, _/_, _%_, _≤_, _<_}
+use mathlib.Core.Logic.{inl, inr}
+use Prim.Native.Nat.{ℕ, zero, suc, _+_, _/_, _%_, _≤_, _<_}
 use native.Mathlib.Omega.{arith}
 use lib.Dec.{eqb, leb}
 use lib.ListN.{length, getD}
-use Rattle.std.specs.Orderings.{Decides}
 use Rattle.std.specs.shelf.Lists.{kept-by}
 use Rattle.std.proofs.shelf.Tests.{and-parts, and-from, both-ways, cases-lt}
 use Rattle.std.proofs.shelf.Ways.{tells}
-use Rattle.cnf.specs.Truth.{told, lit, clause, clauses, inside, Model, Equal}
+use Rattle.cnf.specs.Truth.{told, lit, clause, clauses, inside, Equal}
 use Rattle.cnf.specs.Words.{good, goods}
-use Rattle.cnf.specs.Finite.{rows, models, passes, equal?, first}
-use Rattle.cnf.specs.Laws.{Equal-means}
+use Rattle.cnf.specs.Finite.{rows, models, passes, equal?, backbone?, first}
+use Rattle.cnf.specs.Laws.{Equal-means, Backbone-means, Backbone-equals-true}
 
 module _ {X : Type 0} where
   passes-append : (p : X → Bool) (xs ys : List X) → passes p (xs ++ ys) ≡ (passes p xs && passes p ys)
@@ -128,6 +127,25 @@ equal-means m cs c d g hc hd = (there, back)
     back f =
         passes-kept (tied c d) (fits cs) (rows m)
         ∙ complete m _ (λ bs h. join (fits cs bs) (tied c d bs) (λ k. same-beq _ _ (f (told bs) (record { constant = refl; holds = k }))))
+
+beq-true : (x : Bool) → Bool·beq x true ≡ x
+beq-true true = refl
+beq-true false = refl
+
+passes-same : {X : Type 0} (p q : X → Bool) → ((x : X) → p x ≡ q x) → (xs : List X) → passes p xs ≡ passes q xs
+passes-same p q e [] = refl
+passes-same p q e (x ∷ xs) = ap (λ b. b && passes p xs) (e x) ∙ ap (λ b. q x && b) (passes-same p q e xs)
+
+pub backbone-equals-true : Backbone-equals-true
+unfolding backbone? equal?
+backbone-equals-true m cs c g h =
+    passes-same (λ bits. lit (told bits) c) (λ bits. Bool·beq (lit (told bits) c) true) (λ bits. sym (beq-true (lit (told bits) c))) (models m cs)
+
+pub backbone-means : Backbone-means
+backbone-means m cs c g h =
+    let e = backbone-equals-true m cs c g h in
+    let d = equal-means m cs c 1 g h (omega arith) in
+    ((λ t a s. d .0 (sym e ∙ t) a s ∙ ap not (s .constant)), (λ f. e ∙ d .1 (λ a s. f a s ∙ sym (ap not (s .constant)))))
 
 -- the first number with p
 pub first-is : (p : ℕ → Bool) (c k n : ℕ) → c ≤ n → n ≤ c + k → p n ≡ true → ((d : ℕ) → c ≤ d → d < n → p d ≡ false) → first p c k ≡ n

@@ -1,13 +1,15 @@
 -- Words and the clauses that they are. Assumes nothing.
-use mathlib.Core.Bool.{Bool, true, false, cond, _&&_}
+use mathlib.Core.Bool.{true, false, _&&_}
 use mathlib.Core.List.{List, [], _∷_, _++_}
 use mathlib.Core.Path.{_≡_, refl, sym, ap, _∙_}
-use Prim.Native.Nat.{ℕ, zero, suc, _≤_, _<_, _+_}
+use mathlib.Core.Logic.{inl, inr}
+use Prim.Native.Nat.{ℕ, zero, suc, min, _≤_, _<_, _+_, _-_}
+use native.Mathlib.Nat.{min-eq-left, min-eq-right}
 use native.Mathlib.Omega.{arith}
 use lib.Dec.{leb}
 use lib.ListN.{length, take, drop, getD, length-drop}
-use Rattle.std.proofs.shelf.Lists.{drop-more, drop-drop, take-at, drop-at, take-append-drop, length-take-le, length-append}
-use Rattle.std.proofs.shelf.Tests.{and-parts, and-from, leb-true, le-leb, false≢true}
+use Rattle.std.proofs.shelf.Lists.{drop-more, drop-drop, drop-all, take-all, take-at, drop-at, take-append-drop, length-take-le, length-append}
+use Rattle.std.proofs.shelf.Tests.{and-parts, and-from, leb-true, le-leb, false≢true, cases-lt}
 use Rattle.std.proofs.shelf.Ways.{tells}
 use Rattle.cnf.specs.Truth.{inside}
 use Rattle.cnf.specs.Words.{encode, good, goods, readFrom, read, wellFrom, well}
@@ -96,7 +98,72 @@ well-encode m (c ∷ cs) e =
 pub written-well : Written-well
 written-well m cs e = (read-encode cs, well-encode m cs e)
 
--- what stands at i in a list that is not written to
+well-short : (m k : ℕ) (ws : List ℕ) → length ws < k → wellFrom m k ws ≡ false
+unfolding wellFrom
+well-short m zero ws h = absurd (omega arith)
+well-short m (suc k) [] h = refl
+well-short m (suc k) (w ∷ ws) h = well-short m k ws (omega arith)
+
+pub well-nil : (m : ℕ) → well m [] ≡ true
+unfolding wellFrom
+well-nil m = refl
+
+-- a walk's step over the words of a list, from the place of a count on
+module _ (m : ℕ) (ws : List ℕ) (i : ℕ) (h : i < length ws) where
+  well-here : well m (drop i ws) ≡ ((leb (getD ws i 0) 64 && inside m (take (getD ws i 0) (drop (i + 1) ws))) && wellFrom m (getD ws i 0) (drop (i + 1) ws))
+  unfolding wellFrom
+  well-here = ap (well m) (drop-more ws i 0 h)
+
+  pub well-long : 64 < getD ws i 0 → well m (drop i ws) ≡ false
+  well-long l = let e = well-here in grind (arith, tells)
+
+  pub well-less : length ws < i + 1 + getD ws i 0 → well m (drop i ws) ≡ false
+  well-less l = let e = well-here in let s = well-short m (getD ws i 0) (drop (i + 1) ws) (omega (arith, length-drop (i + 1) ws)) in grind arith
+
+  -- the clause's literals as code takes them
+  pub well-more : getD ws i 0 ≤ 64 → i + 1 + getD ws i 0 ≤ length ws
+      → well m (drop i ws) ≡ (inside m (take (i + 1 + getD ws i 0 - (i + 1)) (drop (i + 1) ws)) && well m (drop (i + 1 + getD ws i 0) ws))
+  well-more l b =
+      let n : ℕ = getD ws i 0 in
+      let z : i + 1 + n - (i + 1) ≡ n = omega arith in
+      let r = well-skip-is m n (drop (i + 1) ws) (omega (arith, length-drop (i + 1) ws)) ∙ ap (well m) (drop-drop n (i + 1) ws) in
+      well-here ∙ ap (λ x. (x && inside m (take n (drop (i + 1) ws))) && wellFrom m n (drop (i + 1) ws)) (le-leb n 64 l)
+      ∙ ap (λ x. inside m (take n (drop (i + 1) ws)) && x) r ∙ ap (λ x. inside m (take x (drop (i + 1) ws)) && well m (drop (i + 1 + n) ws)) (sym z)
+
+-- the clause at i, which ends with the list where its count goes beyond, and the rest
+pub record Clause-at (ws : List ℕ) (i end : ℕ) : Type 0 where
+  pub later : i < end
+  pub within : end ≤ length ws
+  pub size : length (take (end - (i + 1)) (drop (i + 1) ws)) ≡ end - (i + 1)
+  pub parts : read (drop i ws) ≡ take (end - (i + 1)) (drop (i + 1) ws) ∷ read (drop end ws)
+
+pub clause-at : (ws : List ℕ) (i end : ℕ) → i < length ws → end ≡ i + 1 + min (getD ws i 0) (length ws - i - 1) → Clause-at ws i end
+clause-at ws i end h e = elim (cases-lt (length ws - i - 1) (getD ws i 0)) [ inl l ↦ short l (e ∙ ap (λ x. i + 1 + x) (min-eq-right (omega arith))) | inr l ↦ whole l (e ∙ ap (λ x. i + 1 + x) (min-eq-left l)) ]
+  where
+    whole : getD ws i 0 ≤ length ws - i - 1 → end ≡ i + 1 + getD ws i 0 → Clause-at ws i end
+    whole l e =
+        let z : getD ws i 0 ≡ end - (i + 1) = omega arith in
+        record {
+          later = omega arith;
+          within = omega arith;
+          size = length-take-le (end - (i + 1)) (drop (i + 1) ws) (omega (arith, length-drop (i + 1) ws));
+          parts = read-more ws i h ∙ ap (λ x. take x (drop (i + 1) ws) ∷ read (drop (i + 1 + getD ws i 0) ws)) z
+              ∙ ap (λ x. take (end - (i + 1)) (drop (i + 1) ws) ∷ read (drop x ws)) (sym e);
+        }
+
+    short : length ws - i - 1 < getD ws i 0 → end ≡ i + 1 + (length ws - i - 1) → Clause-at ws i end
+    short l e =
+        let d = length-drop (i + 1) ws in
+        let b : List ℕ = drop (i + 1) ws in
+        record {
+          later = omega arith;
+          within = omega arith;
+          size = length-take-le (end - (i + 1)) (drop (i + 1) ws) (omega (arith, length-drop (i + 1) ws));
+          parts = read-more ws i h ∙ ap (λ x. x ∷ read (drop (i + 1 + getD ws i 0) ws)) (take-all (getD ws i 0) b (omega arith) ∙ sym (take-all (end - (i + 1)) b (omega arith)))
+              ∙ ap (λ x. take (end - (i + 1)) b ∷ read x) (drop-all (i + 1 + getD ws i 0) ws (omega arith) ∙ sym (drop-all end ws (omega arith)));
+        }
+
+-- what a well formed list has at i
 pub record Clause-here (m : ℕ) (ws : List ℕ) (i : ℕ) : Type 0 where
   pub fits : i + 1 + getD ws i 0 ≤ length ws
   pub known : inside m (take (getD ws i 0) (drop (i + 1) ws)) ≡ true

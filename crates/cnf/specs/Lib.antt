@@ -3,3 +3,4 @@ pub mod Words
 pub mod Table
 pub mod Finite
 pub mod Laws
+pub mod Open

@@ -1,5 +1,5 @@
 -- A table of representatives, and what it makes of a clause: entry v is the representative of the literal 2v. Assumes nothing.
-use mathlib.Core.Bool.{Bool, true, false, cond, _||_}
+use mathlib.Core.Bool.{Bool, true, false, cond, _&&_, _||_}
 use mathlib.Core.List.{List, [], _∷_, _++_}
 use mathlib.Core.Path.{_≡_}
 use Prim.Native.Nat.{ℕ, zero, suc, _+_, _*_, _/_, _%_, _<_, _≤_}
@@ -19,6 +19,10 @@ turn d c = cond (eqb (c % 2) 0) d (opp d)
 abbrev pub rep : List ℕ → ℕ → ℕ
 rep t c = turn (getD t (c / 2) 0) c
 
+-- the representative of a literal whose variable is in the table
+abbrev pub looked : List ℕ → ℕ → Option ℕ
+looked t c = cond (ltb (c / 2) (length t)) (Some (rep t c)) None
+
 -- the four facts of every table that exists; a constant counts as variable 0
 pub record Tabled (t : List ℕ) : Type 0 where
   pub constants : (c : ℕ) → c < 2 → rep t c ≡ c
@@ -37,6 +41,10 @@ fresh n = freshFrom 0 (n + 1)
 -- what a variable is: free if it represents itself, fixed if a constant represents it, tied otherwise
 abbrev pub kindOf : ℕ → ℕ → Kind
 kindOf v r = cond (eqb r (2 * v)) Free (cond (ltb r 2) (Fixed (eqb r 1)) (Tied r))
+
+-- what a variable of the table is; the constant is none
+abbrev pub kindAt : List ℕ → ℕ → Option Kind
+kindAt t v = cond (ltb 0 v && ltb v (length t)) (Some (kindOf v (getD t v 0))) None
 
 -- each kind's number in a report
 abbrev pub kindNumber : Kind → ℕ

@@ -58,17 +58,17 @@ applied-fewer t c =
 
 -- what putting a literal gives, by its two tests
 module _ (out : List ℕ) (d : ℕ) where
-  pub put-drops : (eqb d 0 || has out d) ≡ true → put out d ≡ Some out
-  put-drops h = ap (λ b. cond b (Some out) (cond (eqb d 1 || has out (opp d)) None (Some (out ++ d ∷ [])))) h
+  put-by : (b : Bool) → (eqb d 0 || has out d) ≡ b → put out d ≡ cond b (Some out) (cond (eqb d 1 || has out (opp d)) None (Some (out ++ d ∷ [])))
+  put-by b h = ap (λ x. cond x (Some out) (cond (eqb d 1 || has out (opp d)) None (Some (out ++ d ∷ [])))) h
 
-  put-past : (eqb d 0 || has out d) ≡ false → put out d ≡ cond (eqb d 1 || has out (opp d)) None (Some (out ++ d ∷ []))
-  put-past h = ap (λ b. cond b (Some out) (cond (eqb d 1 || has out (opp d)) None (Some (out ++ d ∷ [])))) h
+  pub put-drops : (eqb d 0 || has out d) ≡ true → put out d ≡ Some out
+  put-drops h = put-by true h
 
   pub put-vanishes : (eqb d 0 || has out d) ≡ false → (eqb d 1 || has out (opp d)) ≡ true → put out d ≡ None
-  put-vanishes h k = put-past h ∙ ap (λ b. cond b None (Some (out ++ d ∷ []))) k
+  put-vanishes h k = put-by false h ∙ ap (λ x. cond x None (Some (out ++ d ∷ []))) k
 
   pub put-adds : (eqb d 0 || has out d) ≡ false → (eqb d 1 || has out (opp d)) ≡ false → put out d ≡ Some (out ++ d ∷ [])
-  put-adds h k = put-past h ∙ ap (λ b. cond b None (Some (out ++ d ∷ []))) k
+  put-adds h k = put-by false h ∙ ap (λ x. cond x None (Some (out ++ d ∷ []))) k
 
 -- the codes put one after the other
 abbrev fill : List ℕ → List ℕ → Option (List ℕ)

@@ -1,6 +1,6 @@
 -- A clause that is rewritten in place, over values. Assumes nothing.
 use mathlib.Core.List.{List, [], _∷_, _++_}
-use mathlib.Core.Path.{_≡_, refl, sym, ap, _∙_}
+use mathlib.Core.Path.{_≡_, sym, ap, _∙_}
 use Prim.Native.Nat.{ℕ, _+_, _/_, _<_, _≤_}
 use native.Mathlib.Omega.{arith}
 use lib.ListN.{length, getD, take, drop, set, length-set}
@@ -15,9 +15,6 @@ pub record Rewriting (f : ℕ → ℕ) (body here : List ℕ) (n s : ℕ) : Type
   pub fewer : n ≤ s
   pub rest : drop s here ≡ drop s body
   pub clause : puts f (take n here) (drop s body) ≡ applied f body
-
-pub rewriting-none : (f : ℕ → ℕ) (body : List ℕ) → Rewriting f body body 0 0
-rewriting-none f body = record { size = refl; fewer = omega arith; rest = refl; clause = refl }
 
 module _ (f : ℕ → ℕ) (body here : List ℕ) (n s : ℕ) (w : Rewriting f body here n s) where
   pub rewritten : length body ≤ s → Some (take n here) ≡ applied f body

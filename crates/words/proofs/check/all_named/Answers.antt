@@ -9,7 +9,6 @@ returns-then-v-eq0 c =
     let e = at-drop-more (inside (c .args .m)) (c .args .codes .now) (c .loop-code .code-index) 0 (c .loop-code-test .taken) in
     let i = c .loop-code .inv in
     let v = c .variable-v .ensures in
-    let b = c .then-v-eq0 .either in
     grind (arith, tells)
 
 pub loop-code-again : need.loop-code-again

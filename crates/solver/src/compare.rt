@@ -1,0 +1,1 @@
+// Comparing two literals by a solver.

@@ -86,9 +86,9 @@ module _ (r : reader.Reader) (b : ℕ) (s : Sane r) (more : r .pos < length (r .
         body-on r b s more is p f LineStart Comment Comment (r .start) (r .line) on e refl order (omega arith) tt refl
         (end-more b left (r .line) (mark-no-feed b k)) (ap tokens (bytes.start-comment b left (r .line) was on k))
 
-    pub body-empty : r .state ≡ LineStart → classOf b ≡ Feed → Stepped r (then (r .start) (r .line + 1) (r .state) (r .problem) (r .clauses))
+    pub body-empty : r .state ≡ LineStart → classOf b ≡ Feed → Stepped r (then (r .start) (r .line + 1) LineStart (r .problem) (r .clauses))
     body-empty e k =
-        body-on r b s more is p f LineStart (r .state) LineStart (r .start) (r .line + 1) on e e order (omega arith) tt refl
+        body-on r b s more is p f LineStart LineStart LineStart (r .start) (r .line + 1) on e refl order (omega arith) tt refl
         (end-feed b left (r .line) (feed-is b k)) (ap tokens (bytes.start-feed b left (r .line) was on k))
 
     pub body-gap : r .state ≡ LineStart → classOf b ≡ Blank → Stepped r (then (r .start) (r .line) Gap (r .problem) (r .clauses))

@@ -25,7 +25,7 @@ use Rattle.dimacs.specs.declared.reader.State.the-variants.{LineStart, Comment
 use Rattle.dimacs.specs.declared.reader.Reader.{Reader}
 use Rattle.dimacs.specs.Numbers.{glue, cut, number}
 use Rattle.dimacs.specs.Text.{Answer, fault, Placed, placed, tokens, headerOf, judged, opened, ahead, behind, codes, isEnd, closed, finished, ended, body, limited, headed}
-use Rattle.dimacs.specs.Machine.{done, Kept, doneWith, currentWith, Took, NumberedBy, Numbered, Refuses, Headed, nextOf, linesFrom, tokensFrom, endedFrom, part, meaningBy, meaning, Phase, Problemed, Sane, Stops, Stepped}
+use Rattle.dimacs.specs.Machine.{done, Kept, doneWith, currentWith, Took, NumberedBy, Numbered, Refuses, Headed, nextOf, linesFrom, tokensFrom, endedFrom, part, meaningBy, meaning, Phase, Problemed, Sane, Stops, Stepped, Moves}
 use Rattle.dimacs.proofs.Cutting.{glue-none, glue-glue, cut-at, cut-in}
 
 -- the part of a text that has been seen
@@ -89,6 +89,10 @@ refused-is p space end k s j l rest e f =
 -- a fault that came through a `?`
 pub at-err : {T : Type 0} (r : Result T ReadError) (P : T → Type 0) (m : Answer) (y e : ReadError) → r ≡ Err y → y ≡ e → Stops m e → results.Cases r P (Stops m)
 at-err r P m y e p q k = subst (λ x. results.Cases x P (Stops m)) (sym (p ∙ ap Err q)) k
+
+-- a step that ends by a move
+pub moved : (r want got : Reader) (x : Result (Unit {0}) ReadError) (Q : ReadError → Type 0) → Moves want got x → Stepped r want → results.Cases x (λ _. Stepped r got) Q
+moved r want got x Q m h = subst (λ y. results.Cases y (λ _. Stepped r got) Q) (sym (m .answer)) (subst (Stepped r) (sym (m .after)) h)
 
 -- a number's tokens, behind the header
 pub taken : (p : Problem) (space end k : ℕ) (s t : Clauses) (w : List ℕ) (all ts : List Placed) → all ≡ placed k w ∷ ts → Numbered (p .nets) s w t

@@ -155,6 +155,21 @@ pub record Stepped (r q : Reader) : Type 0 where
   pub pos : q .pos ≡ r .pos + 1
   pub text : q .text .now ≡ r .text .now
 
+-- the reader in another state, in what begins at a byte, and behind a line feed
+abbrev pub entered : State → Reader → Reader
+entered st r = record { text = r .text; space = r .space; pos = r .pos; start = r .start; line = r .line; state = st; problem = r .problem; clauses = r .clauses }
+
+abbrev pub begun : State → ℕ → Reader → Reader
+begun st i r = record { text = r .text; space = r .space; pos = r .pos; start = i; line = r .line; state = st; problem = r .problem; clauses = r .clauses }
+
+abbrev pub onNextLine : Reader → Reader
+onNextLine r = record { text = r .text; space = r .space; pos = r .pos; start = r .start; line = r .line + 1; state = LineStart; problem = r .problem; clauses = r .clauses }
+
+-- the reader has become this one, and the answer is that it goes on
+pub record Moves (want got : Reader) (r : Result (Unit {0}) ReadError) : Type 0 where
+  pub answer : r ≡ Ok tt
+  pub after : got ≡ want
+
 -- the text says these clauses, for this many nets
 pub record Says (a : Answer) (p : Problem) (s : Clauses) : Type 0 where
   pub answer : a ≡ Ok (record { nets = p .nets; clauses = done s })

@@ -8,7 +8,7 @@ ghost use Rattle.std.specs.declared.option.Option.the-variants.{Some, None};
 ghost use Rattle.dimacs.specs.Text.{headed, lines, plain};
 ghost use mathlib.Core.List.{[]};
 ghost use Rattle.std.specs.declared.result.Result.the-variants.{Ok};
-ghost use Rattle.dimacs.specs.Machine.{classOf, done, endedFrom, meaning, Kept, Says, Sane, Stepped, Stops, Numbered, Headed, Refuses};
+ghost use Rattle.dimacs.specs.Machine.{classOf, begun, done, endedFrom, entered, meaning, onNextLine, Moves, Kept, Says, Sane, Stepped, Stops, Numbered, Headed, Refuses};
 use crate::clauses::Clauses;
 use crate::clauses::judge;
 use crate::error::ReadError;
@@ -143,6 +143,33 @@ impl<'a> Reader<'a> {
         }
     }
 
+    // Goes on in another state; like the two below it cannot fail, and answers as a step does.
+    fn enter(&mut self, state: State) -> Result<(), ReadError>
+        ensures { λ r. ⌜ Moves (entered state (now (self .entry))) (now (self .exit)) r ⌝ }
+    {
+        self.state = state;
+        Ok(())
+    }
+
+    // Goes on in what begins at a byte, the header line or a number.
+    fn begin(&mut self, state: State, at: usize) -> Result<(), ReadError>
+        ensures { λ r. ⌜ Moves (begun state at (now (self .entry))) (now (self .exit)) r ⌝ }
+    {
+        self.state = state;
+        self.start = at;
+        Ok(())
+    }
+
+    // Goes on behind a line feed.
+    fn next_line(&mut self) -> Result<(), ReadError>
+        requires { ⌜ now self .line < 100000 ⌝ }
+        ensures { λ r. ⌜ Moves (onNextLine (now (self .entry))) (now (self .exit)) r ⌝ }
+    {
+        self.state = State::LineStart;
+        self.line += 1;
+        Ok(())
+    }
+
     // One byte more, before the header line has ended.
     fn step_top(&mut self, byte: u8) -> Result<(), ReadError>
         requires sane { ⌜ Sane (now self) ⌝ }
@@ -154,29 +181,16 @@ impl<'a> Reader<'a> {
         let at = self.pos;
         self.pos += 1;
         match (self.state, class_of(byte)) {
-            (State::LineStart, Class::CommentMark) => {
-                self.state = State::Comment;
-                Ok(())
-            }
+            (State::LineStart, Class::CommentMark) => self.enter(State::Comment),
             (State::LineStart, Class::Feed) => Err(refused(self.line, ReaderFault::HeaderForm)),
-            (State::LineStart, _) => {
-                self.state = State::Header;
-                self.start = at;
-                Ok(())
-            }
-            (State::Comment, Class::Feed) => {
-                self.state = State::LineStart;
-                self.line += 1;
-                Ok(())
-            }
+            (State::LineStart, _) => self.begin(State::Header, at),
+            (State::Comment, Class::Feed) => self.next_line(),
             (State::Comment, _) => Ok(()),
             (State::Header, Class::Feed) => {
                 let token = &self.text[self.start..at];
                 let problem = take_header(token, self.line)?;
                 self.problem = Some(problem);
-                self.state = State::LineStart;
-                self.line += 1;
-                Ok(())
+                self.next_line()
             }
             (State::Header, _) => Ok(()),
             (State::Gap, _) => unreachable(),
@@ -195,53 +209,25 @@ impl<'a> Reader<'a> {
         let at = self.pos;
         self.pos += 1;
         match (self.state, class_of(byte)) {
-            (State::LineStart, Class::CommentMark) => {
-                self.state = State::Comment;
-                Ok(())
-            }
-            (State::LineStart, Class::Feed) => {
-                self.line += 1; // the line was empty
-                Ok(())
-            }
-            (State::LineStart, Class::Blank) => {
-                self.state = State::Gap; // a `c` from here on begins no comment
-                Ok(())
-            }
-            (State::LineStart, Class::Other) => {
-                self.state = State::Number;
-                self.start = at;
-                Ok(())
-            }
-            (State::Comment, Class::Feed) => {
-                self.state = State::LineStart;
-                self.line += 1;
-                Ok(())
-            }
+            (State::LineStart, Class::CommentMark) => self.enter(State::Comment),
+            (State::LineStart, Class::Feed) => self.next_line(),
+            (State::LineStart, Class::Blank) => self.enter(State::Gap),
+            (State::LineStart, Class::Other) => self.begin(State::Number, at),
+            (State::Comment, Class::Feed) => self.next_line(),
             (State::Comment, _) => Ok(()),
             (State::Header, _) => unreachable(),
-            (State::Gap, Class::Feed) => {
-                self.state = State::LineStart;
-                self.line += 1;
-                Ok(())
-            }
+            (State::Gap, Class::Feed) => self.next_line(),
             (State::Gap, Class::Blank) => Ok(()),
-            (State::Gap, _) => {
-                self.state = State::Number;
-                self.start = at;
-                Ok(())
-            }
+            (State::Gap, _) => self.begin(State::Number, at),
             (State::Number, Class::Blank) => {
                 let token = &self.text[self.start..at];
                 take_number(&mut self.clauses, problem, token, self.line)?;
-                self.state = State::Gap;
-                Ok(())
+                self.enter(State::Gap)
             }
             (State::Number, Class::Feed) => {
                 let token = &self.text[self.start..at];
                 take_number(&mut self.clauses, problem, token, self.line)?;
-                self.state = State::LineStart;
-                self.line += 1;
-                Ok(())
+                self.next_line()
             }
             (State::Number, _) => Ok(()),
         }

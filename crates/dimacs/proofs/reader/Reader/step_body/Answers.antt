@@ -3,29 +3,34 @@ use borrow.Author.Needs.{needs}
 use Rattle.std.proofs.shelf.Results.{err-from-errBy}
 use Rattle.dimacs.specs.declared.reader.Class.the-variants.{Feed, Blank}
 use Rattle.dimacs.specs.Machine.{meaning}
-use Rattle.dimacs.proofs.Stepping.{at-err}
+use Rattle.dimacs.proofs.Stepping.{at-err, moved}
 use Rattle.dimacs.proofs.Arms.{body-comment, body-empty, body-gap, body-begins, body-comment-ends, body-comment-on, gap-ends, gap-on, gap-begins, number-goes, number-gap, number-line, number-gap-stops, number-line-stops}
 use Rattle.dimacs.proofs.reader.Reader.step_body.Needs as need
 
 pub returns-in-LineStart-CommentMark : need.returns-in-LineStart-CommentMark
 returns-in-LineStart-CommentMark c =
-    body-comment (c .args .self .now) (c .args .byte) (c .pre .sane) (c .pre .more) (c .pre .byte) (c .args .problem) (c .pre .some) (c .in-LineStart-CommentMark .is-0) (sym (c .in-LineStart-CommentMark .ensures tt))
+    moved (c .args .self .now) _ _ _ _ (c .enter .ensures)
+    (body-comment (c .args .self .now) (c .args .byte) (c .pre .sane) (c .pre .more) (c .pre .byte) (c .args .problem) (c .pre .some) (c .in-LineStart-CommentMark .is-0) (sym (c .in-LineStart-CommentMark .ensures tt)))
 
 pub returns-in-LineStart-Feed : need.returns-in-LineStart-Feed
 returns-in-LineStart-Feed c =
-    body-empty (c .args .self .now) (c .args .byte) (c .pre .sane) (c .pre .more) (c .pre .byte) (c .args .problem) (c .pre .some) (c .in-LineStart-Feed .is-0) (sym (c .in-LineStart-Feed .ensures tt))
+    moved (c .args .self .now) _ _ _ _ (c .next-line .ensures)
+    (body-empty (c .args .self .now) (c .args .byte) (c .pre .sane) (c .pre .more) (c .pre .byte) (c .args .problem) (c .pre .some) (c .in-LineStart-Feed .is-0) (sym (c .in-LineStart-Feed .ensures tt)))
 
 pub returns-in-LineStart-Blank : need.returns-in-LineStart-Blank
 returns-in-LineStart-Blank c =
-    body-gap (c .args .self .now) (c .args .byte) (c .pre .sane) (c .pre .more) (c .pre .byte) (c .args .problem) (c .pre .some) (c .in-LineStart-Blank .is-0) (sym (c .in-LineStart-Blank .ensures tt))
+    moved (c .args .self .now) _ _ _ _ (c .enter-in-LineStart-Blank .ensures)
+    (body-gap (c .args .self .now) (c .args .byte) (c .pre .sane) (c .pre .more) (c .pre .byte) (c .args .problem) (c .pre .some) (c .in-LineStart-Blank .is-0) (sym (c .in-LineStart-Blank .ensures tt)))
 
 pub returns-in-LineStart-Other : need.returns-in-LineStart-Other
 returns-in-LineStart-Other c =
-    body-begins (c .args .self .now) (c .args .byte) (c .pre .sane) (c .pre .more) (c .pre .byte) (c .args .problem) (c .pre .some) (c .in-LineStart-Other .is-0) (sym (c .in-LineStart-Other .ensures tt))
+    moved (c .args .self .now) _ _ _ _ (c .begin .ensures)
+    (body-begins (c .args .self .now) (c .args .byte) (c .pre .sane) (c .pre .more) (c .pre .byte) (c .args .problem) (c .pre .some) (c .in-LineStart-Other .is-0) (sym (c .in-LineStart-Other .ensures tt)))
 
 pub returns-in-Comment-Feed : need.returns-in-Comment-Feed
 returns-in-Comment-Feed c =
-    body-comment-ends (c .args .self .now) (c .args .byte) (c .pre .sane) (c .pre .more) (c .pre .byte) (c .args .problem) (c .pre .some) (c .in-Comment-Feed .is-0) (sym (c .in-Comment-Feed .ensures tt))
+    moved (c .args .self .now) _ _ _ _ (c .next-line-in-Comment-Feed .ensures)
+    (body-comment-ends (c .args .self .now) (c .args .byte) (c .pre .sane) (c .pre .more) (c .pre .byte) (c .args .problem) (c .pre .some) (c .in-Comment-Feed .is-0) (sym (c .in-Comment-Feed .ensures tt)))
 
 pub returns-in-Comment-rest : need.returns-in-Comment-rest
 returns-in-Comment-rest c =
@@ -34,7 +39,8 @@ returns-in-Comment-rest c =
 
 pub returns-in-Gap-Feed : need.returns-in-Gap-Feed
 returns-in-Gap-Feed c =
-    gap-ends (c .args .self .now) (c .args .byte) (c .pre .sane) (c .pre .more) (c .pre .byte) (c .args .problem) (c .pre .some) (c .in-Gap-Feed .is-0) (sym (c .in-Gap-Feed .ensures tt))
+    moved (c .args .self .now) _ _ _ _ (c .next-line-in-Gap-Feed .ensures)
+    (gap-ends (c .args .self .now) (c .args .byte) (c .pre .sane) (c .pre .more) (c .pre .byte) (c .args .problem) (c .pre .some) (c .in-Gap-Feed .is-0) (sym (c .in-Gap-Feed .ensures tt)))
 
 pub returns-in-Gap-Blank : need.returns-in-Gap-Blank
 returns-in-Gap-Blank c =
@@ -44,7 +50,8 @@ pub returns-in-Gap-rest : need.returns-in-Gap-rest
 returns-in-Gap-rest c =
     let no : c .class-of .result ≡ Feed → ⊥ = search needs in
     let nor : c .class-of .result ≡ Blank → ⊥ = search needs in
-    gap-begins (c .args .self .now) (c .args .byte) (c .pre .sane) (c .pre .more) (c .pre .byte) (c .args .problem) (c .pre .some) (c .in-Gap-rest .is-0) (λ e. no (c .class-of .ensures ∙ e)) (λ e. nor (c .class-of .ensures ∙ e))
+    moved (c .args .self .now) _ _ _ _ (c .begin-in-Gap-rest .ensures)
+    (gap-begins (c .args .self .now) (c .args .byte) (c .pre .sane) (c .pre .more) (c .pre .byte) (c .args .problem) (c .pre .some) (c .in-Gap-rest .is-0) (λ e. no (c .class-of .ensures ∙ e)) (λ e. nor (c .class-of .ensures ∙ e)))
 
 pub returns-in-Number-rest : need.returns-in-Number-rest
 returns-in-Number-rest c =
@@ -54,11 +61,13 @@ returns-in-Number-rest c =
 
 pub returns-in-Continue-take-number : need.returns-in-Continue-take-number
 returns-in-Continue-take-number c =
-    number-gap (c .args .self .now) (c .args .byte) (c .pre .sane) (c .pre .more) (c .pre .byte) (c .args .problem) (c .pre .some) _ (c .in-Number-Blank .is-0) (sym (c .in-Number-Blank .ensures tt)) (c .in-Continue-take-number .ensures tt)
+    moved (c .args .self .now) _ _ _ _ (c .enter-in-Number-Blank .ensures)
+    (number-gap (c .args .self .now) (c .args .byte) (c .pre .sane) (c .pre .more) (c .pre .byte) (c .args .problem) (c .pre .some) _ (c .in-Number-Blank .is-0) (sym (c .in-Number-Blank .ensures tt)) (c .in-Continue-take-number .ensures tt))
 
 pub returns-in-Continue-take-number-2 : need.returns-in-Continue-take-number-2
 returns-in-Continue-take-number-2 c =
-    number-line (c .args .self .now) (c .args .byte) (c .pre .sane) (c .pre .more) (c .pre .byte) (c .args .problem) (c .pre .some) _ (c .in-Number-Feed .is-0) (sym (c .in-Number-Feed .ensures tt)) (c .in-Continue-take-number-2 .ensures tt)
+    moved (c .args .self .now) _ _ _ _ (c .next-line-in-Number-Feed .ensures)
+    (number-line (c .args .self .now) (c .args .byte) (c .pre .sane) (c .pre .more) (c .pre .byte) (c .args .problem) (c .pre .some) _ (c .in-Number-Feed .is-0) (sym (c .in-Number-Feed .ensures tt)) (c .in-Continue-take-number-2 .ensures tt))
 
 pub returns-in-Break-take-number : need.returns-in-Break-take-number
 returns-in-Break-take-number c =

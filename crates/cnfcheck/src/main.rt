@@ -33,11 +33,14 @@ fn wants_model(rt: &LibcRuntime) -> Result<bool, AnyError> {
 fn print_model(rt: &LibcRuntime, formula: &Formula) -> Result<(), AnyError> {
     let nets = formula.nets();
     let mut solver = SearchSolver::new(rt.alloc())?;
-    if solver.search(nets, formula.words(), &[]) != Ok(true) {
-        println!(rt, "contradiction")?;
-        return Ok(());
+    match solver.search(nets, formula.words(), &[]) {
+        Ok(true) => print!(rt, "satisfiable")?,
+        Ok(false) => {
+            println!(rt, "contradiction")?;
+            return Ok(());
+        }
+        Err(_) => unreachable(),
     }
-    print!(rt, "satisfiable")?;
     for v in 1..nets.saturating_add(1) {
         let bit = if solver.value(v) == Ok(true) { 1 } else { 0 };
         print!(rt, " {bit}")?;

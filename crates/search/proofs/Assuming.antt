@@ -10,7 +10,7 @@ use Rattle.std.specs.Orderings.{When}
 use Rattle.cnf.specs.Truth.{lit, named, inside}
 use Rattle.solver.specs.Search.{every, Found, NoneFound}
 use Rattle.search.specs.declared.cell.Cell.{Cell}
-use Rattle.search.specs.declared.cell.Cell.the-variants.{Open, No, Yes}
+use Rattle.search.specs.declared.cell.Cell.the-variants.{No, Yes}
 use Rattle.search.specs.declared.state.State.{State}
 use Rattle.search.specs.Cells.{Extends, look, assigned, bits}
 use Rattle.search.specs.States.{Sound, Grew, Assumed, cellsOf}

@@ -1,5 +1,5 @@
 -- The state of a search. Assumes nothing.
-use mathlib.Core.Bool.{Bool, true, false, not}
+use mathlib.Core.Bool.{true, false, not}
 use mathlib.Core.List.{List, [], _∷_, _++_, append-assoc}
 use mathlib.Core.Logic.{⊎-elim}
 use mathlib.Core.Path.{_≡_, refl, sym, ap, _∙_, subst}
@@ -16,7 +16,8 @@ use Rattle.search.specs.declared.cell.Cell.the-variants.{Open}
 use Rattle.search.specs.declared.state.State.{State}
 use Rattle.search.specs.Cells.{Extends, look, placeOf, assigned, restored, openCount}
 use Rattle.search.specs.States.{Sound, Grew, Same, Dead, cellsOf, trailOf, roomOf}
-use Rattle.search.proofs.CellFacts.{named-from, place-within, open-look, count-assigned, finer-assigned, length-assigned, restored-assigned, restored-push, restored-append, count-opened, extend-assigned}
+use Rattle.search.specs.Solving.{Filled, NotWith}
+use Rattle.search.proofs.CellFacts.{named-from, place-within, open-look, count-assigned, finer-assigned, length-assigned, restored-assigned, restored-push, restored-append, count-opened}
 
 -- a literal that is made true
 module _
@@ -108,6 +109,9 @@ grew-trans s t u g h = record {
 pub same-refl : (s : State) → Same s s
 same-refl s = record { cells = refl; trail = refl; room = refl }
 
+pub same-trans : (s t u : State) → Same s t → Same t u → Same s u
+same-trans s t u e f = record { cells = f .cells ∙ e .cells; trail = f .trail ∙ e .trail; room = f .room ∙ e .room }
+
 pub same-grew : (s t : State) → Same s t → Grew s t
 same-grew s t e = record {
   more = [];
@@ -135,14 +139,17 @@ taken-back s t u v mark e g m cs tr rm =
       room = rm ∙ f .room;
     }
 
+-- a model that extends later cells extends earlier ones
+pub filled-grew : (ws : List ℕ) (s t u : State) → Grew s t → Filled ws t u → Filled ws s u
+filled-grew ws s t u g f = record { every-set = f .every-set; as-before = g .finer _ (f .as-before); holds = f .holds }
+
 -- no model where a literal is true, and none where it is false
-pub dead-both : (ws : List ℕ) (s u v : State) (w : ℕ) → named (length (cellsOf s)) w ≡ true → named (length (cellsOf s)) (opp w) ≡ true
-    → cellsOf u ≡ assigned (cellsOf s) w → cellsOf v ≡ assigned (cellsOf s) (opp w) → Dead ws u → Dead ws v → Dead ws s
-dead-both ws s u v w n n′ cu cv du dv = λ a e m.
+pub dead-both : (ws : List ℕ) (s t u : State) (w w′ : ℕ) → w′ ≡ opp w → NotWith w ws s t → NotWith w′ ws t u → Dead ws s
+dead-both ws s t u w w′ o x y = λ a e m.
     let P : List Cell → Type 0 = λ c. Extends c a in
     ⊎-elim
-    (λ (y : lit a w ≡ true). du a (subst P (sym cu) (extend-assigned (cellsOf s) w a n y e)) m)
-    (λ (y : lit a w ≡ false). dv a (subst P (sym cv) (extend-assigned (cellsOf s) (opp w) a n′ (lit-opp a w ∙ ap not y) e)) m)
+    (λ (l : lit a w ≡ true). x .none a e l m)
+    (λ (l : lit a w ≡ false). y .none a (subst P (sym (x .same .cells)) e) (ap (lit a) o ∙ lit-opp a w ∙ ap not l) m)
     (cases-bool (lit a w))
 
 -- the two literals of an open place

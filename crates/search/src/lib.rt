@@ -19,17 +19,14 @@ use state::keep;
 use std::alloc::AllocError;
 use std::alloc::Global;
 
-// The most variables of a search.
-const MOST: usize = 2000;
-
 impl SearchSolver {
     // A solver that has searched nothing yet.
     pub fn new(heap: Global) -> Result<SearchSolver, AllocError>
         ensures { λ r. ⌜ made r (λ s. (s .tally ≡ 0) × (keptBy (s .kept .present) (vec-items (s .kept .bits)) ≡ None)) ⌝ }
     {
-        let cells = Vec::with_capacity(heap, MOST)?;
-        let trail = Vec::with_capacity(heap, MOST)?;
-        let bits = Vec::with_capacity(heap, MOST)?;
+        let cells = Vec::with_capacity(heap, Self::CAPACITY)?;
+        let trail = Vec::with_capacity(heap, Self::CAPACITY)?;
+        let bits = Vec::with_capacity(heap, Self::CAPACITY)?;
         Ok(SearchSolver {
             state: State { cells, trail },
             kept: Kept {

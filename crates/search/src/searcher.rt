@@ -1,6 +1,6 @@
 // The solver by search, and what it keeps.
 ghost use Prim.Native.Nat.{_≤_};
-ghost use Rattle.std.specs.Of.Vec.{vec-cap, vec-len};
+ghost use Rattle.std.specs.Of.Vec.{vec-cap};
 use crate::state::State;
 use solver::kept::Kept;
 

@@ -10,7 +10,7 @@ ghost use Rattle.cnf.specs.Words.{well};
 ghost use Rattle.solver.specs.Search.{Found, NoneFound};
 ghost use Rattle.search.specs.Cells.{bits, look, assigned, restored, openCount};
 ghost use Rattle.search.specs.States.{Sound, Grew, Passed, Propagated, Assumed, cellsOf, trailOf, roomOf};
-ghost use Rattle.search.specs.Solving.{Solved};
+ghost use Rattle.search.specs.Solving.{Solved, Tried};
 use crate::cell::Cell;
 use crate::cell::Status;
 use crate::cell::first_open;
@@ -129,13 +129,29 @@ impl State {
             return true;
         };
         let code = 2 * place as u16 + 2;
-        let fork = self.trail.len();
-        self.assign(code);
-        if self.solve(list) {
+        if self.attempt(list, code) {
             return true;
         }
-        self.undo(fork);
-        self.assign(opposite(code));
+        if self.attempt(list, opposite(code)) {
+            return true;
+        }
+        self.undo(mark);
+        false
+    }
+
+    // Looks for a model that extends the cells and makes an open literal true: the cells are one then, and else as they were.
+    pub(crate) fn attempt(&mut self, list: &[u16], code: u16) -> bool
+        requires sound { ⌜ Sound (now self) ⌝ }
+        requires formed { ⌜ well (length (cellsOf (now self))) (now list) ≡ true ⌝ }
+        requires known { ⌜ named (length (cellsOf (now self))) code ≡ true ⌝ }
+        requires free { ⌜ look (cellsOf (now self)) code ≡ Cell.Open ⌝ }
+        ensures sound { λ _. ⌜ Sound (now (self .exit)) ⌝ }
+        ensures size { λ _. ⌜ length (cellsOf (now (self .exit))) ≡ length (cellsOf (now (self .entry))) ⌝ }
+        ensures room { λ _. ⌜ roomOf (now (self .exit)) ≡ roomOf (now (self .entry)) ⌝ }
+        ensures tried { λ r. ⌜ Tried code (now (list .entry)) (now (self .entry)) (now (self .exit)) r ⌝ }
+    {
+        let mark = self.trail.len();
+        self.assign(code);
         if self.solve(list) {
             return true;
         }
@@ -154,7 +170,7 @@ impl State {
     {
         self.trail.clear();
         self.cells.clear();
-        for i in 0..m {
+        while self.cells.len() < m {
             self.cells.push_reserved(Cell::Open);
         }
     }

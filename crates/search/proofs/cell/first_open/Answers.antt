@@ -1,8 +1,8 @@
-use mathlib.Core.Path.{_≡_, sym, _∙_, ap}
+use mathlib.Core.Path.{_∙_}
 use native.Mathlib.Omega.{arith}
 use Rattle.std.proofs.shelf.Lists.{at-drop-more, at-drop-all}
 use Rattle.search.specs.declared.cell.Cell.the-variants.{Open}
-use Rattle.search.specs.Cells.{openCount, gap}
+use Rattle.search.specs.Cells.{openCount}
 use Rattle.search.proofs.CellFacts.{gap-closed}
 use Rattle.search.proofs.cell.first_open.Needs as need
 

@@ -1,7 +1,6 @@
-use mathlib.Core.Path.{_≡_, refl, sym, ap, _∙_, subst}
+use mathlib.Core.Path.{sym, subst}
 use Prim.Native.Nat.{ℕ, _+_}
 use Rattle.std.specs.declared.option.Option.{Option}
-use borrow.Author.Needs.{needs}
 use lib.ListN.{length, getD}
 use Rattle.search.proofs.CellFacts.{count-open, look-open, place-within}
 use Rattle.search.proofs.Weighing.{Scanned, scanned-named, scanned-no, scanned-open, scanned-yes, scanned-none, scanned-one}

@@ -1,5 +1,5 @@
-use mathlib.Core.Path.{_≡_, sym, _∙_, ap, subst}
-use Prim.Native.Nat.{ℕ, _+_}
+use mathlib.Core.Path.{sym, _∙_, ap, subst}
+use Prim.Native.Nat.{_+_}
 use lib.ListN.{length, getD}
 use Rattle.cnf.specs.Truth.{named}
 use Rattle.search.specs.Cells.{look}

@@ -1,7 +1,7 @@
-use mathlib.Core.Path.{_≡_, refl, sym, ap, _∙_}
+use mathlib.Core.Path.{refl, sym, ap, _∙_}
 use native.Mathlib.Omega.{arith}
 use Prim.Native.Nat.{_≤_}
-use lib.ListN.{length, drop, take}
+use lib.ListN.{length}
 use Rattle.std.proofs.shelf.Lists.{drop-all, take-all}
 use Rattle.std.specs.Changed.{with-item}
 use Rattle.search.specs.declared.cell.Cell.the-variants.{Open}

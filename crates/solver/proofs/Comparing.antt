@@ -1,18 +1,17 @@
--- Two literals that a model tells apart, and rows of literals under assignments. Assumes nothing.
+-- Two literals that a model tells apart, or none does. Assumes nothing.
 use mathlib.Core.Bool.{Bool, true, false, not, _&&_}
 use mathlib.Core.List.{List, [], _∷_}
 use mathlib.Core.Path.{_≡_, refl, sym, ap, _∙_}
-use Prim.Native.Nat.{ℕ, _/_, _≤_}
+use Prim.Native.Nat.{ℕ}
 use native.Mathlib.Omega.{arith}
 use lib.Dec.{leb}
-use Rattle.std.proofs.shelf.Tests.{and-parts, both-ways}
+use Rattle.std.proofs.shelf.Tests.{both-ways}
 use Rattle.std.proofs.shelf.Ways.{tells}
 use Rattle.std.specs.declared.option.Option.{Option}
 use Rattle.std.specs.declared.option.Option.the-variants.{Some, None}
-use Rattle.cnf.specs.Truth.{opp, told, lit, named, inside, Model, Equal}
+use Rattle.cnf.specs.Truth.{opp, told, lit, named, Equal}
 use Rattle.cnf.specs.Words.{read, well}
 use Rattle.cnf.proofs.Tables.{lit-opp}
-use Rattle.cnf.proofs.Counting.{lit-same}
 use Rattle.solver.specs.Search.{every, accepts, Found, NoneFound, Answered}
 
 named-opp : (m c : ℕ) → named m (opp c) ≡ named m c
@@ -52,11 +51,3 @@ equal ws c d f g a s = same (lit a c) (lit a d) refl refl
     same false false p q = p ∙ sym q
     same true false p q = (let o = lit-opp a d in absurd (f a s (grind arith)))
     same false true p q = (let o = lit-opp a c in absurd (g a s (grind arith)))
-
--- assignments with the same bits up to m give the same
-pub every-same : (m : ℕ) (a b : ℕ → Bool) → ((v : ℕ) → v ≤ m → a v ≡ b v) → (cs : List ℕ) → inside m cs ≡ true → every a cs ≡ every b cs
-every-same m a b e [] h = refl
-every-same m a b e (c ∷ cs) h =
-    let l : c / 2 ≤ m = grind (arith, tells) in
-    let i : inside m cs ≡ true = grind arith in
-    ap (λ x. x && every a cs) (lit-same m a b e c l) ∙ ap (λ x. lit b c && x) (every-same m a b e cs i)

@@ -7,6 +7,7 @@ ghost use Rattle.std.specs.declared.option.Option.{Option};
 ghost use Rattle.solver.specs.Search.{Searched, valued, flipped, left};
 
 pub mod accept;
+pub mod assumed;
 pub mod compare;
 pub mod kept;
 

@@ -3,6 +3,7 @@
 use counting::ByCounting;
 use counting::CountingSolver;
 use faults::SolverFault;
+use faults::SolverFaultPartialEq;
 use search::BySearch;
 use search::SearchSolver;
 use solver::Solver;
@@ -24,7 +25,13 @@ fn numbers(heap: Global, text: &str) -> Result<Vec<u16>, AnyError> {
 }
 
 // Whether what the solver keeps is a model of the list in which the assumed literals are true.
-fn keeps_model<S: Solver>(heap: Global, solver: &S, m: usize, list: &[u16], assumed: &[u16]) -> Result<bool, AnyError> {
+fn keeps_model<S: Solver>(
+    heap: Global,
+    solver: &S,
+    m: usize,
+    list: &[u16],
+    assumed: &[u16],
+) -> Result<bool, AnyError> {
     let mut bits = Vec::new(heap);
     for v in 1..m.saturating_add(1) {
         match solver.value(v) {
@@ -35,25 +42,54 @@ fn keeps_model<S: Solver>(heap: Global, solver: &S, m: usize, list: &[u16], assu
     Ok(satisfied(list, &bits) && every_true(assumed, &bits))
 }
 
-// What a search says in a word.
-fn said<S: Solver>(heap: Global, solver: &mut S, m: usize, list: &[u16], assumed: &[u16]) -> Result<&'static str, AnyError> {
+// What a search answered, and whether what it keeps fits that.
+#[derive(Clone, Copy, PartialEq, Eq)]
+enum Said {
+    Yes,
+    YesWithoutModel,
+    Nothing,
+    NothingButKept,
+    Turned,
+}
+
+impl Said {
+    fn name(self) -> &'static str {
+        match self {
+            Said::Yes => "yes",
+            Said::YesWithoutModel => "yes, and no model is kept",
+            Said::Nothing => "none",
+            Said::NothingButKept => "none, and something is kept",
+            Said::Turned => "refused",
+        }
+    }
+}
+
+// What a search says.
+fn ask<S: Solver>(
+    heap: Global,
+    solver: &mut S,
+    m: usize,
+    list: &[u16],
+    assumed: &[u16],
+) -> Result<Said, AnyError> {
     match solver.search(m, list, assumed) {
         Ok(true) => {
             if keeps_model(heap, solver, m, list, assumed)? {
-                Ok("yes")
+                Ok(Said::Yes)
             } else {
-                Ok("yes, and no model is kept")
+                Ok(Said::YesWithoutModel)
             }
         }
         Ok(false) => match solver.value(1) {
-            Err(SolverFault::NothingKept) => Ok("none"),
-            _ => Ok("none, and something is kept"),
+            Err(SolverFault::NothingKept) => Ok(Said::Nothing),
+            _ => Ok(Said::NothingButKept),
         },
-        Err(_) => Ok("refused"),
+        Err(_) => Ok(Said::Turned),
     }
 }
 
 // A row of numbers that looks random and is the same at every run.
+#[derive(Drop)]
 struct Draws {
     x: u64,
 }
@@ -67,7 +103,12 @@ impl Draws {
 }
 
 // A list of clauses of one to three literals over m variables.
-fn random_list(heap: Global, draws: &mut Draws, m: u16, clauses: u16) -> Result<Vec<u16>, AnyError> {
+fn random_list(
+    heap: Global,
+    draws: &mut Draws,
+    m: u16,
+    clauses: u16,
+) -> Result<Vec<u16>, AnyError> {
     let mut list = Vec::new(heap);
     for _ in 0..clauses {
         let count = draws.below(3).saturating_add(1);
@@ -80,7 +121,11 @@ fn random_list(heap: Global, draws: &mut Draws, m: u16, clauses: u16) -> Result<
 }
 
 // How both solvers answer generated searches and comparisons.
-fn compare_random(rt: &LibcRuntime, counter: &mut CountingSolver, searcher: &mut SearchSolver) -> Result<(), AnyError> {
+fn compare_random(
+    rt: &LibcRuntime,
+    counter: &mut CountingSolver,
+    searcher: &mut SearchSolver,
+) -> Result<(), AnyError> {
     let heap = rt.alloc();
     let mut draws = Draws { x: 1 };
     let mut yes = 0u32;
@@ -90,12 +135,12 @@ fn compare_random(rt: &LibcRuntime, counter: &mut CountingSolver, searcher: &mut
         let clauses = draws.below(m.saturating_mul(4)).saturating_add(1);
         let list = random_list(heap, &mut draws, m, clauses)?;
         let assumed = [draws.below(m.saturating_mul(2)).saturating_add(2)];
-        let one = said(heap, counter, m as usize, &list, &assumed)?;
-        let other = said(heap, searcher, m as usize, &list, &assumed)?;
+        let one = ask(heap, counter, m as usize, &list, &assumed)?;
+        let other = ask(heap, searcher, m as usize, &list, &assumed)?;
         if one != other {
-            println!(rt, "list {i}: counting {one}, search {other}")?;
+            println!(rt, "list {i}: the solvers differ")?;
         }
-        if one == "yes" {
+        if one == Said::Yes {
             yes = yes.saturating_add(1);
         }
         let c = draws.below(m.saturating_mul(2)).saturating_add(2);
@@ -128,8 +173,10 @@ fn main(rt: LibcRuntime) -> Result<(), AnyError> {
         let m = m.parse::<usize>()?;
         let list = numbers(heap, list)?;
         let assumed = numbers(heap, assumed)?;
-        let one = said(heap, &mut counter, m, &list, &assumed)?;
-        let other = said(heap, &mut searcher, m, &list, &assumed)?;
+        let one = ask(heap, &mut counter, m, &list, &assumed)?;
+        let other = ask(heap, &mut searcher, m, &list, &assumed)?;
+        let one = one.name();
+        let other = other.name();
         println!(rt, "{line}: counting {one}, search {other}")?;
     }
     compare_random(&rt, &mut counter, &mut searcher)

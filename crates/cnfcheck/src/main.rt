@@ -2,6 +2,7 @@
 // With --solve it says in a second line whether the clauses have a model, and gives one.
 use dimacs::error::ReadError;
 use dimacs::formula::Formula;
+use faults::SolverFaultPartialEq;
 use search::BySearch;
 use search::SearchSolver;
 use solver::Solver;

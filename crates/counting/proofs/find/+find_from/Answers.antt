@@ -9,13 +9,13 @@ use Rattle.counting.proofs.find.+find_from.Needs as need
 pub returns-then-place-bits : need.returns-then-place-bits
 returns-then-place-bits t c = record {
   front = refl;
-  tried = tried-end (fits (c .args .list .now) (c .args .assumed .now)) (c .args .place) (c .args .bits .now) (c .is-model .result) (c .if-place-bits .taken) (c .is-model .ensures);
+  tried = tried-end (fits (c .args .list .now) (c .args .assumed .now)) (c .args .place) (c .args .bits .now) (c .is-model .result) (omega arith) (c .is-model .ensures);
 }
 
 pub returns-then-find-from : need.returns-then-find-from
 returns-then-find-from t c =
     let h = c .if-find-from .ensures tt in
-    record { front = front-less _ _ (c .args .place) false (h .front); tried = h .tried }
+    record { front = front-less (c .find-from .last .bits) (c .args .bits .now) (c .args .place) false (h .front); tried = h .tried }
 
 pub returns : need.returns
 returns t c =

@@ -58,7 +58,8 @@ pub impl Solver for CountingSolver as ByCounting {
             return Err(SolverFault::BadSearch);
         }
         self.tally = self.tally.saturating_add(1);
-        Ok(find_model(&mut self.kept, m, list, assumed))
+        let found = find_model(&mut self.kept, m, list, assumed);
+        Ok(found)
     }
 
     fn value(&self, v: usize) -> Result<bool, SolverFault> {

@@ -27,5 +27,7 @@ returns t c =
     let f = front-less mid bits i false (h .front) in
     record {
       front = front-less _ mid i true (k .front) ∙ f;
-      tried = tried-both (fits (c .args .list .now) (c .args .assumed .now)) i bits mid _ (c .find-from-2 .result) (omega arith) (c .find-from .kept .bits ∙ length-set bits i false) f (h .tried) (k .tried);
+      tried =
+          tried-both (fits (c .args .list .now) (c .args .assumed .now)) i bits mid (c .find-from-2 .last .bits) _ _ (c .find-from-2 .result) (omega arith)
+          (c .find-from .kept .bits ∙ length-set bits i false) f (h .tried) (k .tried) (cc);
     }

@@ -26,7 +26,7 @@ returns t c =
     let k = c .find-from-2 .ensures in
     let f = front-less mid bits i false (h .front) in
     record {
-      front = front-less _ mid i true (k .front) ∙ f;
+      front = front-less (c .find-from-2 .last .bits) mid i _ (k .front) ∙ f;
       tried =
           tried-both (fits (c .args .list .now) (c .args .assumed .now)) i bits mid (c .find-from-2 .last .bits) _ _ (c .find-from-2 .result) (omega arith)
           (c .find-from .kept .bits ∙ length-set bits i false) f (h .tried) (k .tried) (cc);

@@ -7,6 +7,8 @@ ghost use Rattle.std.specs.declared.option.Option.the-variants.{None};
 ghost use Rattle.solver.specs.Search.{keptBy};
 
 mod find;
+#[cfg(test)]
+mod tests;
 
 use faults::SolverFault;
 use find::find_model;

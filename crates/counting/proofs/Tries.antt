@@ -1,13 +1,13 @@
 -- The two ways on from a place, and what all of them say together. Assumes nothing.
-use mathlib.Core.Bool.{Bool, true, false}
+use mathlib.Core.Bool.{Bool, true, false, not}
 use mathlib.Core.List.{List, [], _∷_, _++_}
-use mathlib.Core.Logic.{⊎-elim}
+use mathlib.Core.Logic.{_⊎_, inl, inr, ⊎-elim}
 use mathlib.Core.Path.{_≡_, refl, sym, ap, _∙_, subst}
 use Prim.Native.Nat.{ℕ, _+_, _<_, _≤_}
 use native.Mathlib.Omega.{arith}
 use lib.ListN.{length, getD, set, take}
 use Rattle.std.proofs.shelf.Lists.{take-more, take-more-set, take-take, take-set, take-all, length-set}
-use Rattle.std.proofs.shelf.Tests.{cases-bool, and-parts, and-from, both-ways}
+use Rattle.std.proofs.shelf.Tests.{and-parts, and-from, both-ways}
 use Rattle.cnf.specs.Truth.{told, inside}
 use Rattle.cnf.specs.Words.{read, well}
 use Rattle.cnf.proofs.Counting.{row, row-length, row-told, clauses-same}
@@ -25,6 +25,12 @@ pub front-less : (xs ys : List Bool) (i : ℕ) (b : Bool) → take (i + 1) xs �
 front-less xs ys i b e =
     sym (take-take i (i + 1) xs (omega arith)) ∙ ap (take i) e ∙ take-take i (i + 1) (set ys i b) (omega arith) ∙ take-set ys i b
 
+either : (b x : Bool) → (b ≡ x) ⊎ (b ≡ not x)
+either true true = inl refl
+either true false = inr refl
+either false true = inr refl
+either false false = inl refl
+
 module _ (p : List Bool → Bool) (i : ℕ) (bits : List Bool) where
   -- at the end there is one row left
   pub tried-end : (r : Bool) → length bits ≤ i → r ≡ p bits → Tried p i bits bits r
@@ -32,14 +38,13 @@ module _ (p : List Bool → Bool) (i : ℕ) (bits : List Bool) where
   tried-end false h e = λ a l t. ap p (sym (take-all i a (omega arith)) ∙ t ∙ take-all i bits h) ∙ sym e
 
   -- neither bit at the place leads to a row with p, or the second does
-  pub tried-both : (mid last : List Bool) (r : Bool) → i < length bits → length mid ≡ length bits → take i mid ≡ take i bits
-      → Tried p (i + 1) (set bits i false) mid false → Tried p (i + 1) (set mid i true) last r → Tried p i bits last r
-  tried-both mid last true h l f d k = k
-  tried-both mid last false h l f d k = λ a n t.
-      ⊎-elim
-      (λ (e : getD a i false ≡ true). k a (n ∙ sym (length-set mid i true ∙ l)) (agrees-more a mid i true (omega arith) (omega arith) (t ∙ sym f) e))
-      (λ (e : getD a i false ≡ false). d a (n ∙ sym (length-set bits i false)) (agrees-more a bits i false (omega arith) h t e))
-      (cases-bool (getD a i false))
+  pub tried-both : (mid last : List Bool) (x y r : Bool) → i < length bits → length mid ≡ length bits → take i mid ≡ take i bits → Tried p (i + 1) (set bits i x) mid false
+      → Tried p (i + 1) (set mid i y) last r → y ≡ not x → Tried p i bits last r
+  tried-both mid last x y true h l f d k o = k
+  tried-both mid last x y false h l f d k o = λ a n t.
+      ⊎-elim (λ (e : getD a i false ≡ x). d a (n ∙ sym (length-set bits i x)) (agrees-more a bits i x (omega arith) h t e))
+      (λ (e : getD a i false ≡ not x). k a (n ∙ sym (length-set mid i y ∙ l)) (agrees-more a mid i y (omega arith) (omega arith) (t ∙ sym f) (e ∙ sym o)))
+      (either (getD a i false) x)
 
 -- where no row of m bits will do, no assignment will
 none : (m : ℕ) (ws assumed : List ℕ) → well m ws ≡ true → inside m assumed ≡ true → ((a : List Bool) → length a ≡ m → fits ws assumed a ≡ false) → NoneFound ws assumed

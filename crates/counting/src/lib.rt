@@ -7,6 +7,8 @@ ghost use Rattle.std.specs.declared.option.Option.the-variants.{None};
 ghost use Rattle.solver.specs.Search.{keptBy};
 
 mod find;
+#[cfg(test)]
+mod tests;
 
 use faults::SolverFault;
 use find::find_model;
@@ -58,7 +60,8 @@ pub impl Solver for CountingSolver as ByCounting {
             return Err(SolverFault::BadSearch);
         }
         self.tally = self.tally.saturating_add(1);
-        Ok(find_model(&mut self.kept, m, list, assumed))
+        let found = find_model(&mut self.kept, m, list, assumed);
+        Ok(found)
     }
 
     fn value(&self, v: usize) -> Result<bool, SolverFault> {

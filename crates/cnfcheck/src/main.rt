@@ -50,8 +50,8 @@ fn print_model(rt: &LibcRuntime, formula: &Formula) -> Result<(), AnyError> {
     Ok(())
 }
 
-fn main(rt: LibcRuntime) -> Result<(), AnyError> {
-    let solve = wants_model(&rt)?;
+fn run(rt: &LibcRuntime) -> Result<(), AnyError> {
+    let solve = wants_model(rt)?;
     let heap = rt.alloc();
     let mut text = Vec::new(heap);
     rt.stdin().take(MOST_BYTES).read_to_end(&mut text)?;
@@ -62,7 +62,7 @@ fn main(rt: LibcRuntime) -> Result<(), AnyError> {
             let words = formula.words().len();
             println!(rt, "nets {nets} clauses {clauses} words {words}")?;
             if solve {
-                print_model(&rt, &formula)?;
+                print_model(rt, &formula)?;
             }
             Ok(())
         }
@@ -74,4 +74,8 @@ fn main(rt: LibcRuntime) -> Result<(), AnyError> {
         }
         Err(ReadError::Memory) => Err("out of memory".into()),
     }
+}
+
+fn main(rt: LibcRuntime) -> Result<(), AnyError> {
+    rt.report(run(&rt))
 }

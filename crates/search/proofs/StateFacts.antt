@@ -3,7 +3,7 @@ use mathlib.Core.Bool.{true, false, not}
 use mathlib.Core.List.{List, [], _∷_, _++_, append-assoc}
 use mathlib.Core.Logic.{⊎-elim}
 use mathlib.Core.Path.{_≡_, refl, sym, ap, _∙_, subst}
-use Prim.Native.Nat.{ℕ, _+_, _*_, _<_, _≤_}
+use Prim.Native.Nat.{ℕ, _+_, _/_, _<_, _≤_}
 use native.Mathlib.Omega.{arith}
 use lib.ListN.{length, getD, set, take, drop}
 use Rattle.std.proofs.shelf.Lists.{length-set, length-append, length-push, getD-push, getD-append-left, drop-append-le, take-append-le, drop-at, take-at, append-nil}
@@ -152,23 +152,12 @@ dead-both ws s t u w w′ o x y = λ a e m.
     (λ (l : lit a w ≡ false). y .none a (subst P (sym (x .same .cells)) e) (ap (lit a) o ∙ lit-opp a w ∙ ap not l) m)
     (cases-bool (lit a w))
 
--- the two literals of an open place
-pub record Branch (c : List Cell) (w : ℕ) : Type 0 where
-  pub known : named (length c) w ≡ true
-  pub known′ : named (length c) (opp w) ≡ true
-  pub free : look c w ≡ Open
-  pub free′ : look c (opp w) ≡ Open
+-- the literals of an open place
+module _ (c′ c : List Cell) (p w : ℕ) (e : c′ ≡ c) (h : (p < length c′) × (getD c′ p Open ≡ Open)) (at : w / 2 ≡ p + 1) where
+  pub known-at : named (length c) w ≡ true
+  known-at = let l = ap length e in named-from (length c) w (omega arith) (omega (arith, h .0))
 
-pub branch : (c′ c : List Cell) (p : ℕ) → c′ ≡ c → (p < length c′) × (getD c′ p Open ≡ Open) → Branch c (2 * p + 2)
-branch c′ c p e h =
-    let w = 2 * p + 2 in
-    let lt : p < length c = omega (arith, ap length e, h .0) in
-    let o : getD c p Open ≡ Open = sym (ap (λ x. getD x p Open) e) ∙ h .1 in
-    let pw : placeOf w ≡ p = omega arith in
-    let pw′ : placeOf (opp w) ≡ p = omega arith in
-    record {
-      known = named-from (length c) w (omega arith) (omega arith);
-      known′ = named-from (length c) (opp w) (omega arith) (omega arith);
-      free = open-look c w (ap (λ i. getD c i Open) pw ∙ o);
-      free′ = open-look c (opp w) (ap (λ i. getD c i Open) pw′ ∙ o);
-    }
+  pub free-at : look c w ≡ Open
+  free-at =
+      let z : placeOf w ≡ p = omega arith in
+      open-look c w (ap (λ i. getD c i Open) z ∙ sym (ap (λ x. getD x p Open) e) ∙ h .1)

@@ -4,14 +4,13 @@ use mathlib.Core.Path.{_≡_, sym, ap, _∙_, subst}
 use Prim.Native.Nat.{ℕ}
 use native.Mathlib.Omega.{arith}
 use lib.ListN.{length}
-use Rattle.cnf.specs.Truth.{named}
 use Rattle.cnf.specs.Words.{well}
 use Rattle.search.specs.declared.cell.Cell.{Cell}
 use Rattle.search.specs.declared.state.State.{State}
-use Rattle.search.specs.Cells.{Extends, openCount, look}
+use Rattle.search.specs.Cells.{Extends, openCount}
 use Rattle.search.specs.States.{Grew, cellsOf}
 use Rattle.search.proofs.CellFacts.{bits-extend, extend-assigned}
-use Rattle.search.proofs.StateFacts.{grew-trans, grew-long, same-grew, same-refl, same-trans, taken-back, filled-grew, branch, dead-both}
+use Rattle.search.proofs.StateFacts.{grew-trans, grew-long, same-grew, same-refl, same-trans, taken-back, filled-grew, known-at, free-at, dead-both}
 use Rattle.search.proofs.state.State.+attempt+solve.Needs as need
 
 formed : (ws : List ℕ) (s t : State) → Grew s t → well (length (cellsOf s)) ws ≡ true → well (length (cellsOf t)) ws ≡ true
@@ -82,8 +81,18 @@ solve-returns-in-rest t c =
 pub solve-attempt-requires : need.solve-attempt-requires
 solve-attempt-requires t c κs =
     let p = c .propagate .ensures in
-    let b = branch _ _ (c .in-Some .place) (c .deref .ensures .value) (c .in-Some .ensures tt) in
-    (omega (arith, c .measured, p .grew .fewer), (p .sound, (formed (c .args .list .now) (c .args .self .now) _ (p .grew) (c .pre .formed), (b .known, b .free))))
+    let cs = cellsOf (c .propagate .last .self) in
+    let e = c .deref .ensures .value in
+    let h = c .in-Some .ensures tt in (
+      omega (arith, c .measured, p .grew .fewer),
+      (
+        p .sound,
+        (
+          formed (c .args .list .now) (c .args .self .now) _ (p .grew) (c .pre .formed),
+          (known-at _ cs (c .in-Some .place) _ e h (omega arith), free-at _ cs (c .in-Some .place) _ e h (omega arith)),
+        ),
+      ),
+    )
 
 pub solve-returns-then-attempt : need.solve-returns-then-attempt
 solve-returns-then-attempt t c =
@@ -97,10 +106,17 @@ solve-attempt-requires-2 t c κs =
     let m = v .tried .same in
     let g = grew-trans (c .args .self .now) _ _ (c .propagate .ensures .grew) (same-grew _ (c .attempt .last .self) m) in
     let cs = cellsOf (c .attempt .last .self) in
-    let b = branch _ cs (c .in-Some .place) (c .deref .ensures .value ∙ sym (m .cells)) (c .in-Some .ensures tt) in
+    let e = c .deref .ensures .value ∙ sym (m .cells) in
+    let h = c .in-Some .ensures tt in
     let o = c .opposite .ensures in (
       omega (arith, c .measured, g .fewer),
-      (v .sound, (formed (c .args .list .now) (c .args .self .now) _ g (c .pre .formed), (ap (named (length cs)) o ∙ b .known′, ap (look cs) o ∙ b .free′))),
+      (
+        v .sound,
+        (
+          formed (c .args .list .now) (c .args .self .now) _ g (c .pre .formed),
+          (known-at _ cs (c .in-Some .place) _ e h (omega arith), free-at _ cs (c .in-Some .place) _ e h (omega arith)),
+        ),
+      ),
     )
 
 pub solve-returns-then-attempt-2 : need.solve-returns-then-attempt-2
@@ -128,5 +144,5 @@ solve-returns t c =
       sound = u .sound;
       size = ap length (e .cells);
       room = e .room;
-      solved = record { same = e; none = λ a z k. dead-both (c .args .list .now) _ _ _ _ _ (c .opposite .ensures) x y a (p .done .0 a z k) k };
+      solved = record { same = e; none = λ a z k. dead-both (c .args .list .now) _ _ _ _ _ (omega (arith, c .opposite .ensures)) x y a (p .done .0 a z k) k };
     }

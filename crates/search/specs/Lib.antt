@@ -1,0 +1,3 @@
+pub mod Cells
+pub mod States
+pub mod Solving

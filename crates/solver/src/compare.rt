@@ -1,4 +1,5 @@
 // Comparing two literals by a solver.
+ghost use Prim.Native.Nat.{_+_, _≤_};
 ghost use Rattle.solver.specs.Implied.{Implied};
 ghost use Rattle.solver.specs.Search.{Compared};
 use crate::Solver;
@@ -13,7 +14,8 @@ fn implies<S: Solver>(
     c: u16,
     d: u16,
 ) -> Result<bool, SolverFault>
-    ensures { λ r. ⌜ Implied most m (now (list .entry)) c d r ⌝ }
+    ensures implied { λ r. ⌜ Implied most m (now (list .entry)) c d r ⌝ }
+    ensures tallied { λ _. ⌜ tally (now (solver .exit)) ≤ tally (now (solver .entry)) + 1 ⌝ }
 {
     let found = solver.search(m, list, &[c, opposite(d)])?;
     Ok(!found)
@@ -27,7 +29,8 @@ pub fn equal_over<S: Solver>(
     c: u16,
     d: u16,
 ) -> Result<bool, SolverFault>
-    ensures { λ r. ⌜ Compared most m (now (list .entry)) c d r ⌝ }
+    ensures compared { λ r. ⌜ Compared most m (now (list .entry)) c d r ⌝ }
+    ensures tallied { λ _. ⌜ tally (now (solver .exit)) ≤ tally (now (solver .entry)) + 2 ⌝ }
 {
     if !implies(solver, m, list, c, d)? {
         return Ok(false);

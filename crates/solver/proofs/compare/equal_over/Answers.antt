@@ -5,4 +5,7 @@ pub returns : need.returns
 returns g c =
     let there = c .in-Continue-implies .ensures tt in
     let back = c .in-Continue-implies-2 .ensures tt in
-    (there .0, λ a s. let f = there .1 .0 (c .if-not-branch .left) a s in let h = back .1 .0 (c .if-not-branch-2 .left) a s in grind arith)
+    record {
+      compared = (there .implied .0, λ a s. let f = there .implied .1 .0 (c .if-not-branch .left) a s in let h = back .implied .1 .0 (c .if-not-branch-2 .left) a s in grind arith);
+      tallied = omega (arith, there .tallied, back .tallied);
+    }

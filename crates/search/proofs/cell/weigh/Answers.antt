@@ -39,7 +39,7 @@ returns-in-None c =
     let ws = c .args .body .now in
     let i = c .loop-code .code-index in
     let P : Option ℕ → Type 0 = Scanned cs ws i in
-    λ a e. let f = scanned-none cs ws i (c .loop-code-test .left) (subst P (c .in-None .is) (c .loop-code .inv)) a e in cc
+    λ a e. let f = scanned-none cs ws i (c .loop-code-test .left) (subst P (c .in-None .is) (c .loop-code .inv)) a e in simp f
 
 pub returns-in-Some : need.returns-in-Some
 returns-in-Some c =

@@ -1,0 +1,4 @@
+pub mod Renumber
+pub mod Marks
+pub mod Classes
+pub mod Group

@@ -1,5 +1,5 @@
 #!/usr/bin/env python3
-"""A reading of clause texts that was written from docs/RULES.md alone, to compare `cnfcheck` with.
+"""A second reading of clause texts after the rules in docs/RULES.md, by regular expressions, to compare `cnfcheck` with.
 
     reader_reference.py FILE [SPACE]        prints the line that cnfcheck prints
     reader_reference.py --random N PROGRAM  compares PROGRAM (cnfcheck) on N random, mostly damaged texts

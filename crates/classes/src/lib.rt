@@ -1,4 +1,6 @@
 // Classes of equal literals: the sweep of a set of clauses, generic over the solver.
+#![tactic(auto)]
+
 pub mod group;
 pub mod laws;
 mod refine;

@@ -1,5 +1,5 @@
 -- What the theory states. Assumes nothing.
-use Rattle.std.specs.Prelude.{◌≡◌, ℕ, ◌+◌, ◌*◌, ◌/◌, ◌≤◌, Bool, true, false, List, [], length, Some, None, Decides, Option}
+use Rattle.std.specs.Prelude.{◌≡◌, ℕ, ◌/◌, ◌≤◌, Bool, true, false, List, length, Some, None, Decides, Option}
 use Rattle.cnf.specs.Truth.{clause, clauses, Equal, Backbone}
 use Rattle.cnf.specs.Words.{encode, read, well, goods}
 use Rattle.cnf.specs.Table.{Tabled, applied, applieds, then', by, via, clause_or_true, Follows, Own, Extends}

@@ -1,4 +1,6 @@
 // Literals, clauses and the representative table: the theory that all other crates cite, and the code closest to it.
+#![tactic(auto)]
+
 pub mod kind;
 pub mod laws;
 pub mod literal;

@@ -1,5 +1,7 @@
 // Reads a clause file from standard input and prints one line: what it holds, or its first fault.
 // With --solve it says in a second line whether the clauses have a model, and gives one.
+#![tactic(auto)]
+
 use anyhow::anyhow;
 use dimacs::error::ReadError;
 use dimacs::formula::Formula;

@@ -1,4 +1,6 @@
 // A solver that tries every assignment in turn: slow, and plain enough to hold the others to.
+#![tactic(auto)]
+
 ghost use Rattle.std.specs.Prelude.{◌≡◌, ◌≤◌, IfOk, None, vec_capacity};
 ghost use Rattle.solver.specs.Search.{kept_by};
 ghost use Rattle.std.proofs.Common.{rules, arith};

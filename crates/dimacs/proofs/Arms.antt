@@ -35,25 +35,25 @@ module _ (r : reader.Reader) (b : ℕ) (s : Sane r) (more : r.pos < length r.tex
     pub top_comment : r.state ≡ LineStart → class_of b ≡ CommentMark → Stepped r (then r.start r.line Comment r.problem r.clauses)
     top_comment e k =
         top_on r b s more is LineStart Comment Comment r.start r.line on f e refl order (omega arith) tt refl
-        (end_more b left r.line (mark_no_feed b k)) (bytes.start-comment b left r.line was on k)
+        (end_more b left r.line (mark_no_feed b k)) (bytes.start_comment b left r.line was on k)
 
     pub top_empty : r.state ≡ LineStart → class_of b ≡ Feed → meaning r ≡ fault r.line (Reader HeaderForm)
-    top_empty e k = here r b s more is LineStart None e f ∙ ap (headed r.space _) (bytes.start-feed b left r.line was on k)
+    top_empty e k = here r b s more is LineStart None e f ∙ ap (headed r.space _) (bytes.start_feed b left r.line was on k)
 
     pub top_begins : r.state ≡ LineStart → (class_of b ≡ Feed → ⊥) → (class_of b ≡ CommentMark → ⊥) → Stepped r (then r.pos r.line Header r.problem r.clauses)
     top_begins e ne nor =
         top_on r b s more is LineStart Header Header r.pos r.line (b ∷ _) f e refl (omega arith) (omega arith) (omega arith) (seen_one r b s more is)
-        (end_more b left r.line (not_feed b ne)) (bytes.start-header b left r.line was on ne nor)
+        (end_more b left r.line (not_feed b ne)) (bytes.start_header b left r.line was on ne nor)
 
     pub top_comment_ends : r.state ≡ Comment → class_of b ≡ Feed → Stepped r (then r.start (r.line + 1) LineStart r.problem r.clauses)
     top_comment_ends e k =
         top_on r b s more is Comment LineStart LineStart r.start (r.line + 1) on f e refl order (omega arith) tt refl
-        (end_feed b left r.line (feed_is b k)) (bytes.comment-feed b left r.line was on k)
+        (end_feed b left r.line (feed_is b k)) (bytes.comment_feed b left r.line was on k)
 
     pub top_comment_on : r.state ≡ Comment → (class_of b ≡ Feed → ⊥) → Stepped r (then r.start r.line r.state r.problem r.clauses)
     top_comment_on e ne =
         top_on r b s more is Comment r.state Comment r.start r.line on f e e order (omega arith) tt refl
-        (end_more b left r.line (not_feed b ne)) (bytes.comment-more b left r.line was on ne)
+        (end_more b left r.line (not_feed b ne)) (bytes.comment_more b left r.line was on ne)
 
     header_began : r.state ≡ Header → r.start < r.pos
     header_began e = subst (λ z. Phase z None r.start r.pos) e (subst (λ z. Phase r.state z r.start r.pos) f s.phase)
@@ -61,58 +61,58 @@ module _ (r : reader.Reader) (b : ℕ) (s : Sane r) (more : r.pos < length r.tex
     pub header_on : r.state ≡ Header → (class_of b ≡ Feed → ⊥) → Stepped r (then r.start r.line r.state r.problem r.clauses)
     header_on e ne =
         top_on r b s more is Header r.state Header r.start r.line _ f e e order (omega arith) (omega (arith, header_began e)) (seen_more r b s more is)
-        (end_more b left r.line (not_feed b ne)) (bytes.header-more b left r.line was on ne)
+        (end_more b left r.line (not_feed b ne)) (bytes.header_more b left r.line was on ne)
 
     pub header_ends : (p : Problem) → r.state ≡ Header → class_of b ≡ Feed → Headed r.line was (Ok p) → Stepped r (then r.start (r.line + 1) LineStart (Some p) r.clauses)
     header_ends p e k h =
         stepped r b s more is Header LineStart LineStart None (Some p) (Some p) r.clauses r.start (r.line + 1) on e f refl refl order (omega arith) tt s.kept (omega arith) h.1 refl
         (ap (λ z. headed r.space z (lines_from Header r.line was (b ∷ left))) (end_feed b left r.line (feed_is b k))
-        ∙ headed_is p r.space (r.line + 1 + length (next_of left)) r.line was _ _ r.clauses (bytes.header-feed b left r.line was on k) (subst (λ z. Problemed z r.clauses) f s.problem) h)
+        ∙ headed_is p r.space (r.line + 1 + length (next_of left)) r.line was _ _ r.clauses (bytes.header_feed b left r.line was on k) (subst (λ z. Problemed z r.clauses) f s.problem) h)
 
     pub header_stops : (x : ReadError) → r.state ≡ Header → class_of b ≡ Feed → Headed r.line was (Err x) → Stops (meaning r) x
     header_stops x e k h =
-        unheaded r.space _ r.line was _ _ (meaning r) x (here r b s more is Header None e f) (bytes.header-feed b left r.line was on k) h
+        unheaded r.space _ r.line was _ _ (meaning r) x (here r b s more is Header None e f) (bytes.header_feed b left r.line was on k) h
 
   module _ (p : Problem) (f : r.problem ≡ Some p) where
     pub body_comment : r.state ≡ LineStart → class_of b ≡ CommentMark → Stepped r (then r.start r.line Comment r.problem r.clauses)
     body_comment e k =
         body-on r b s more is p f LineStart Comment Comment r.start r.line on e refl order (omega arith) tt refl
-        (end_more b left r.line (mark_no_feed b k)) (ap tokens (bytes.start-comment b left r.line was on k))
+        (end_more b left r.line (mark_no_feed b k)) (ap tokens (bytes.start_comment b left r.line was on k))
 
     pub body_empty : r.state ≡ LineStart → class_of b ≡ Feed → Stepped r (then r.start (r.line + 1) LineStart r.problem r.clauses)
     body_empty e k =
         body-on r b s more is p f LineStart LineStart LineStart r.start (r.line + 1) on e refl order (omega arith) tt refl
-        (end_feed b left r.line (feed_is b k)) (ap tokens (bytes.start-feed b left r.line was on k))
+        (end_feed b left r.line (feed_is b k)) (ap tokens (bytes.start_feed b left r.line was on k))
 
     pub body-gap : r.state ≡ LineStart → class_of b ≡ Blank → Stepped r (then r.start r.line Gap r.problem r.clauses)
     body-gap e k =
         body-on r b s more is p f LineStart Gap Gap r.start r.line on e refl order (omega arith) tt refl
-        (end_more b left r.line (blank_no_feed b k)) (bytes.start-gap b left r.line was on k)
+        (end_more b left r.line (blank_no_feed b k)) (bytes.start_gap b left r.line was on k)
 
     pub body_begins : r.state ≡ LineStart → class_of b ≡ Other → Stepped r (then r.pos r.line Number r.problem r.clauses)
     body_begins e k =
         body-on r b s more is p f LineStart Number Number r.pos r.line (b ∷ _) e refl (omega arith) (omega arith) (omega arith) (seen_one r b s more is)
-        (end_more b left r.line (other_no_feed b k)) (bytes.start-number b left r.line was on k)
+        (end_more b left r.line (other_no_feed b k)) (bytes.start_number b left r.line was on k)
 
     pub body_comment_ends : r.state ≡ Comment → class_of b ≡ Feed → Stepped r (then r.start (r.line + 1) LineStart r.problem r.clauses)
     body_comment_ends e k =
         body-on r b s more is p f Comment LineStart LineStart r.start (r.line + 1) on e refl order (omega arith) tt refl
-        (end_feed b left r.line (feed_is b k)) (ap tokens (bytes.comment-feed b left r.line was on k))
+        (end_feed b left r.line (feed_is b k)) (ap tokens (bytes.comment_feed b left r.line was on k))
 
     pub body_comment_on : r.state ≡ Comment → (class_of b ≡ Feed → ⊥) → Stepped r (then r.start r.line r.state r.problem r.clauses)
     body_comment_on e ne =
         body-on r b s more is p f Comment r.state Comment r.start r.line on e e order (omega arith) tt refl
-        (end_more b left r.line (not_feed b ne)) (ap tokens (bytes.comment-more b left r.line was on ne))
+        (end_more b left r.line (not_feed b ne)) (ap tokens (bytes.comment_more b left r.line was on ne))
 
     pub gap_ends : r.state ≡ Gap → class_of b ≡ Feed → Stepped r (then r.start (r.line + 1) LineStart r.problem r.clauses)
     gap_ends e k =
         body-on r b s more is p f Gap LineStart LineStart r.start (r.line + 1) on e refl order (omega arith) tt refl
-        (end_feed b left r.line (feed_is b k)) (bytes.gap-feed b left r.line was on k)
+        (end_feed b left r.line (feed_is b k)) (bytes.gap_feed b left r.line was on k)
 
     pub gap-on : r.state ≡ Gap → class_of b ≡ Blank → Stepped r (then r.start r.line r.state r.problem r.clauses)
     gap-on e k =
         body-on r b s more is p f Gap r.state Gap r.start r.line on e e order (omega arith) tt refl
-        (end_more b left r.line (blank_no_feed b k)) (bytes.gap-blank b left r.line was on k)
+        (end_more b left r.line (blank_no_feed b k)) (bytes.gap_blank b left r.line was on k)
 
     pub gap_begins : r.state ≡ Gap → (class_of b ≡ Feed → ⊥) → (class_of b ≡ Blank → ⊥) → Stepped r (then r.pos r.line Number r.problem r.clauses)
     gap_begins e ne nor =
@@ -127,15 +127,15 @@ module _ (r : reader.Reader) (b : ℕ) (s : Sane r) (more : r.pos < length r.tex
     pub number-gap : (t : Clauses) → r.state ≡ Number → class_of b ≡ Blank → Numbered p.nets r.clauses was t → Stepped r (then r.start r.line Gap r.problem t)
     number-gap t e k h =
         number-on r b s more is p f Gap r.line t e (omega arith) tt h (end_more b left r.line (blank_no_feed b k))
-        (bytes.number-blank b left r.line was on (number-some r b s more is p f e) k)
+        (bytes.number_blank b left r.line was on (number-some r b s more is p f e) k)
 
     pub number-line : (t : Clauses) → r.state ≡ Number → class_of b ≡ Feed → Numbered p.nets r.clauses was t → Stepped r (then r.start (r.line + 1) LineStart r.problem t)
     number-line t e k h =
         number-on r b s more is p f LineStart (r.line + 1) t e (omega arith) tt h (end_feed b left r.line (feed_is b k))
-        (bytes.number-feed b left r.line was on (number-some r b s more is p f e) k)
+        (bytes.number_feed b left r.line was on (number-some r b s more is p f e) k)
 
     pub number-gap_stops : (x : ReadError) → r.state ≡ Number → class_of b ≡ Blank → Refuses p.nets r.clauses r.line was x → Stops (meaning r) x
-    number-gap_stops x e k h = number_stops r b s more is p f _ x e (bytes.number-blank b left r.line was on (number-some r b s more is p f e) k) h
+    number-gap_stops x e k h = number_stops r b s more is p f _ x e (bytes.number_blank b left r.line was on (number-some r b s more is p f e) k) h
 
     pub number-line_stops : (x : ReadError) → r.state ≡ Number → class_of b ≡ Feed → Refuses p.nets r.clauses r.line was x → Stops (meaning r) x
-    number-line_stops x e k h = number_stops r b s more is p f _ x e (bytes.number-feed b left r.line was on (number-some r b s more is p f e) k) h
+    number-line_stops x e k h = number_stops r b s more is p f _ x e (bytes.number_feed b left r.line was on (number-some r b s more is p f e) k) h

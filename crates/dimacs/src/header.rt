@@ -51,7 +51,7 @@ fn is_marked(line: &[u8]) -> bool
     ensures { result ≡ bytes_eq (take 5 line.now) (bytes "p cnf") }
 {
     let (mark, _) = line.split_at(line.len().min(5));
-    mark == b"p cnf"
+    mark == b"p cnf".as_slice()
 }
 
 // The numbers of the header line, where it has the form of one.

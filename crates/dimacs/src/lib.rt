@@ -1,4 +1,6 @@
 // The narrowed DIMACS CNF text.
+#![tactic(auto)]
+
 ghost use Rattle.std.specs.Prelude.{◌≡◌, ℕ, List};
 ghost use Rattle.dimacs.specs.Results.{ReadAs, GivesBack};
 ghost use Rattle.dimacs.specs.Written.{Within, written};

@@ -1,12 +1,8 @@
 -- Every fault's part and number; a located fault has its line beside it. Assumes nothing.
 use Rattle.std.specs.Prelude.{ℕ}
-use Rattle.faults.specs.declared.ReaderFault.{ReaderFault}
 use Rattle.faults.specs.declared.ReaderFault.TheVariants.{TextTooLong, HeaderForm, MalformedNumber, HeaderLimit, ClauseCount}
-use Rattle.faults.specs.declared.SheetFault.{SheetFault}
 use Rattle.faults.specs.declared.SheetFault.TheVariants.{NoSuchVariable, TooManyLiterals, StoreFull, Contradictory, TooManyNets, Radius, Capacity, SpaceShort}
-use Rattle.faults.specs.declared.SolverFault.{SolverFault}
 use Rattle.faults.specs.declared.SolverFault.TheVariants.{BadSearch, NothingKept, NoVariable}
-use Rattle.faults.specs.declared.NamesFault.{NamesFault}
 use Rattle.faults.specs.declared.NamesFault.TheVariants.{NoName}
 use Rattle.faults.specs.declared.Part.{Part}
 use Rattle.faults.specs.declared.Part.TheVariants.{OfReader, OfSheet, OfSolver, OfNames}

@@ -1,4 +1,6 @@
 // Why a call is turned down: one enum for each part that can refuse, and one fault around them.
+#![tactic(auto)]
+
 ghost use Rattle.std.specs.Prelude.{◌≡◌};
 ghost use Rattle.faults.specs.Numbers.{number_of, part_of};
 ghost use Rattle.faults.specs.declared.Fault.TheVariants.{Reader, Sheet, Solver, Names};

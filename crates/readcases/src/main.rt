@@ -1,4 +1,6 @@
 // Reads the texts that standard input lists, a line `WORDS FILE` for each, and prints what each reading gives.
+#![tactic(auto)]
+
 use anyhow::anyhow;
 use dimacs::error::ReadError;
 use faults::Part;

@@ -1,4 +1,6 @@
 // A solver by search: first what clauses force, then the lowest open variable both ways.
+#![tactic(auto)]
+
 ghost use Rattle.std.specs.Prelude.{◌≡◌, IfOk, None};
 ghost use Rattle.solver.specs.Search.{kept_by};
 ghost use Rattle.std.proofs.Common.{rules, arith};

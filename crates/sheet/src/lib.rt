@@ -1,4 +1,6 @@
 // The sheet: clauses over nets, a representative for each net, and the calls on them.
+#![tactic(auto)]
+
 mod add;
 mod open;
 mod outcome;

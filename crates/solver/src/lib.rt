@@ -1,4 +1,6 @@
 // What a solver of clause lists means, and code that is proved once for every solver.
+#![tactic(auto)]
+
 ghost use Rattle.std.specs.Prelude.{◌≡◌, ℕ, ◌≤◌, Bool, List, Option};
 ghost use Rattle.solver.specs.Search.{Searched, valued, flipped, left};
 

@@ -1,5 +1,7 @@
 // Runs both solvers on the same searches and prints what they answer: a table from standard input, and generated lists.
 // A line of the table is `M LITERALS | ASSUMED`: the literals are codes, a clause's count before them.
+#![tactic(auto)]
+
 use anyhow::anyhow;
 use counting::CountingSolver;
 use faults::SolverFault;

@@ -1,4 +1,6 @@
 // Clause lists in words: tests of their form, their truth under bits, and a table applied to them in place.
+#![tactic(auto)]
+
 pub mod apply;
 pub mod check;
 pub mod eval;

@@ -6,8 +6,8 @@ use Rattle.classes.specs.Group.{CarriedBack, Rises}
 use Rattle.classes.proofs.Carrying.{small_well, group_back, rises, not_refused}
 use Rattle.classes.proofs.group.sweep_group.Goals as goal
 
-pub sweep-numbered-found-requires : goal.sweep-numbered-found-requires
-sweep-numbered-found-requires g c =
+pub sweep_numbered-found-requires : goal.sweep_numbered-found-requires
+sweep_numbered-found-requires g c =
     let list = c.args.list.now in
     let n : ℕ = c.args.scratch.now.rank.len - 1 in
     let m = c.renumber-m.result in
@@ -18,7 +18,7 @@ sweep-numbered-found-requires g c =
     let p = c.args.scratch.now.size in
     let e : length c.deref-mut.result.now - 1 ≡ n = omega (arith, c.deref-mut.ensures.len) in
     let s : Renumbered list work rank old n m = subst (λ x. Renumbered list work rank old x m) e c.renumber-m.ensures in
-    let h : well n list ≡ true = sym (c.if-not-well-formed.ensures ∙ ap (λ x. well (x - 1) list) c.len-size.ensures) in
+    let h : well n list ≡ true = sym (c.if-not-well_formed.ensures ∙ ap (λ x. well (x - 1) list) c.len-size.ensures) in
     let t : length c.args.table.now ≡ c.args.scratch.now.rank.len = omega (arith, c.len-size.ensures) in
     let f : m ≤ n = s.tables.few in
     let o : c.deref.result.now ≡ old = c.deref.ensures.value ∙ take_at old _ _ (c.renumber-m.auto.old ∙ c.deref-mut-2.ensures.len) in
@@ -47,16 +47,16 @@ returns g c =
     let old = c.renumber-m.new.old in
     let e : length c.deref-mut.result.now - 1 ≡ n = omega (arith, c.deref-mut.ensures.len) in
     let s : Renumbered list work rank old n m = subst (λ x. Renumbered list work rank old x m) e c.renumber-m.ensures in
-    let h : well n list ≡ true = sym (c.if-not-well-formed.ensures ∙ ap (λ x. well (x - 1) list) c.len-size.ensures) in
+    let h : well n list ≡ true = sym (c.if-not-well_formed.ensures ∙ ap (λ x. well (x - 1) list) c.len-size.ensures) in
     let o : c.deref.result.now ≡ old = c.deref.ensures.value ∙ take_at old _ _ (c.renumber-m.auto.old ∙ c.deref-mut-2.ensures.len) in
     let t = c.args.table.now in
-    let u = c.sweep-numbered-found.new.table in
-    let b = c.sweep-numbered-found.result in
+    let u = c.sweep_numbered-found.new.table in
+    let b = c.sweep_numbered-found.result in
     record {
       answer = (
         not_refused _ _ _ m list t (omega (arith, c.len-size.ensures)) h (omega arith) s.count (omega (arith, c.limit.ensures)),
-        group_back list work rank old n m h s t u b (subst (λ x. CarriedBack m (read (take (length list) work)) x t u b) o c.sweep-numbered-found.ensures.answer),
-        omega (arith, c.sweep-numbered-found.ensures.tallied, s.count),
+        group_back list work rank old n m h s t u b (subst (λ x. CarriedBack m (read (take (length list) work)) x t u b) o c.sweep_numbered-found.ensures.answer),
+        omega (arith, c.sweep_numbered-found.ensures.tallied, s.count),
       );
       size = refl;
     }

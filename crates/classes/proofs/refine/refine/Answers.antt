@@ -4,7 +4,7 @@ use Rattle.classes.specs.Classes.{agrees}
 use Rattle.classes.proofs.Making.{cleared}
 use Rattle.classes.proofs.Refining.{refining_keep, name_within, agrees_not, agrees_still, move_by, mint_by, refining_all, refining_none}
 use Rattle.classes.proofs.refine.refine.Goals as goal
-use Rattle.classes.proofs.refine.refine.Goals.{then-is-true, then-split-r-eq0, else-split-r-eq0, else-is-true}
+use Rattle.classes.proofs.refine.refine.Goals.{then-is_true, then-split-r-eq0, else-split-r-eq0, else-is_true}
 
 pub bounds-split-r : goal.bounds-split-r
 bounds-split-r c = name_within _ _ _ _ _ c.loop-w.invariant (entries_from_tabled _ c.requires.tabled) _ c.variable-r.ensures (omega arith)
@@ -19,16 +19,16 @@ pub loop-w-preserved : goal.loop-w-preserved
 loop-w-preserved c =
     let l : c.loop-w.w < length c.args.table.now = omega arith in
     let e = entries_from_tabled _ c.requires.tabled in
-    elim c.if-is-true.branch [
-      | then-is-true w ↦
-          (let a : agrees c.args.bits.now c.args.table.now c.loop-w.w ≡ false = agrees_not _ _ _ _ _ c.loop-w.invariant e _ _ c.is-true.ensures c.is-true-in-loop-w.ensures w.if-is-true.true in
+    elim c.if-is_true.branch [
+      | then-is_true w ↦
+          (let a : agrees c.args.bits.now c.args.table.now c.loop-w.w ≡ false = agrees_not _ _ _ _ _ c.loop-w.invariant e _ _ c.is_true.ensures c.is_true-in-loop-w.ensures w.if-is_true.true in
           rw w.split-is
           (elim w.if-split-r-eq0.branch [
             | then-split-r-eq0 w' ↦ mint_by _ _ _ _ _ c.loop-w.invariant e _ _ _ _ w.table-is w.variable-r.ensures w'.split-is w.representative.ensures l a w'.if-split-r-eq0.true
             | else-split-r-eq0 w' ↦ move_by _ _ _ _ _ c.loop-w.invariant e _ _ _ _ w.table-is w.variable-r.ensures w'.split-is w.representative.ensures l a w'.if-split-r-eq0.false
           ]))
-      | else-is-true w ↦
-          (let a : agrees c.args.bits.now c.args.table.now c.loop-w.w ≡ true = agrees_still _ _ _ _ _ c.loop-w.invariant e _ _ c.is-true.ensures c.is-true-in-loop-w.ensures w.if-is-true.false in
+      | else-is_true w ↦
+          (let a : agrees c.args.bits.now c.args.table.now c.loop-w.w ≡ true = agrees_still _ _ _ _ _ c.loop-w.invariant e _ _ c.is_true.ensures c.is_true-in-loop-w.ensures w.if-is_true.false in
           rw (w.table-is, w.split-is) (refining_keep _ _ _ _ _ c.loop-w.invariant e l a))
     ]
 

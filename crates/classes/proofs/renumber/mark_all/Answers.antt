@@ -10,8 +10,8 @@ loop-i-init c =
     marking_all_none _ _ c.fill.new.self refl (ap (λ n. well (n - 1) c.args.list.now) c.fill.ensures.len ∙ c.requires)
     (λ k h. cleared _ _ (c.fill.ensures.after (λ _ e. e)) k)
 
-pub slice-bounds-mark-end : goal.slice-bounds-mark-end
-slice-bounds-mark-end c = let h = (clause_here _ _ _ c.loop-i-test.true c.loop-i.invariant.good).fits in omega arith
+pub slice_bounds-mark-end : goal.slice_bounds-mark-end
+slice_bounds-mark-end c = let h = (clause_here _ _ _ c.loop-i-test.true c.loop-i.invariant.good).fits in omega arith
 
 pub mark-requires : goal.mark-requires
 mark-requires c =

@@ -13,7 +13,7 @@ number-m-requires c = (
     omega arith,
     (
       omega arith,
-      zero_unmarked (length c.args.rank.now - 1) (read c.args.list.now) _ (read_means _ c.args.list.now c.requires.1.0).1 (omega arith) c.mark-all.ensures,
+      zero_unmarked (length c.args.rank.now - 1) (read c.args.list.now) _ (read_means _ c.args.list.now c.requires.1.0).1 (omega arith) c.mark_all.ensures,
     ),
   ),
 )
@@ -21,8 +21,8 @@ number-m-requires c = (
 pub write-requires : goal.write-requires
 write-requires c =
     let n : length c.number-m.new.rank ≡ length c.args.rank.now = omega arith in
-    let k : length c.mark-all.new.marks ≡ length c.number-m.new.rank = omega arith in
-    let s = c.number-m.ensures (occurs (read c.args.list.now)) c.mark-all.ensures in (
+    let k : length c.mark_all.new.marks ≡ length c.number-m.new.rank = omega arith in
+    let s = c.number-m.ensures (occurs (read c.args.list.now)) c.mark_all.ensures in (
       omega arith,
       (
         ap (λ x. well (x - 1) c.args.list.now) n ∙ c.requires.1.0,
@@ -33,8 +33,8 @@ write-requires c =
 
 pub returns : goal.returns
 returns c =
-    let k : length c.mark-all.new.marks ≡ length c.args.rank.now - 1 + 1 = omega arith in
-    let s = c.number-m.ensures (occurs (read c.args.list.now)) c.mark-all.ensures in
+    let k : length c.mark_all.new.marks ≡ length c.args.rank.now - 1 + 1 = omega arith in
+    let s = c.number-m.ensures (occurs (read c.args.list.now)) c.mark_all.ensures in
     let t = subst (λ x. Numbered (occurs (read c.args.list.now)) c.number-m.new.rank c.number-m.new.old x c.number-m.result) k s in
     record {
       tables = renumbers (read c.args.list.now) (length c.args.rank.now - 1) c.number-m.result c.number-m.new.rank c.number-m.new.old

@@ -59,9 +59,9 @@ returns g c =
     let n : length c.args.spare.now ≡ m + 1 = omega arith in
     let d : old / 2 ≤ v = (entries_from_tabled t c.requires.tabled).low v (omega arith) in
     let e : goods m cs ≡ true = (read_means m (take left c.args.work.now) c.requires.good).1 in
-    let size = c.apply-all-less.auto.words ∙ length-take-le left c.args.work.now (omega arith) in
-    let fewer : c.apply-all-less.result ≤ left = omega (arith, c.apply-all-less.ensures.within, length-take-le left c.args.work.now (omega arith)) in
-    let words = take-append-le c.apply-all-less.result c.apply-all-less.new.words (drop left c.args.work.now) (omega (arith, size)) ∙ c.apply-all-less.ensures.exact in
+    let size = c.apply_all-less.auto.words ∙ length-take-le left c.args.work.now (omega arith) in
+    let fewer : c.apply_all-less.result ≤ left = omega (arith, c.apply_all-less.ensures.within, length-take-le left c.args.work.now (omega arith)) in
+    let words = take-append-le c.apply_all-less.result c.apply_all-less.new.words (drop left c.args.work.now) (omega (arith, size)) ∙ c.apply_all-less.ensures.exact in
     record {
       fewer = fewer;
       good = ap (well m) words ∙ well-encode m (applieds f cs) (applieds-good m f cs (by_within m v old c.args.spare.now n c.requires.plain l d) e);

@@ -7,7 +7,7 @@ use Rattle.dimacs.proofs.number.read_numeral.Goals.{then-b-lt48-via-then-b-lt48,
 
 pub returns-then-b-lt48 : goal.returns-then-b-lt48
 returns-then-b-lt48 c =
-    let all = numeral-short c.args.text.now (sym c.is-short.ensures ∙ c.if-not-is-short.false) in
+    let all = numeral-short c.args.text.now (sym c.is_short.ensures ∙ c.if-not-is_short.false) in
     record {
       value =
           elim c.then-b-lt48.branch [
@@ -27,7 +27,7 @@ loop-b-preserved c = (
 
 pub returns : goal.returns
 returns c =
-    let s : short c.args.text.now ≡ true = sym c.is-short.ensures ∙ c.if-not-is-short.false in
+    let s : short c.args.text.now ≡ true = sym c.is_short.ensures ∙ c.if-not-is_short.false in
     record {
       value =
           sym (numeral-short c.args.text.now s

@@ -13,8 +13,8 @@ returns-in-Conflict c = λ e. rw (propagating_conflict _ _ _ _ _ _ c.loop-turn.i
 
 pub loop-turn-preserved : goal.loop-turn-preserved
 loop-turn-preserved c =
-    propagating_more _ _ _ _ _ _ c.loop-turn.invariant c.loop-turn-test.true _ (omega arith) c.in-Forces.literal c.fix.new.table c.apply-all-used.new.words
-    c.apply-all-used.result c.in-Forces.ensures (simp c.fix.ensures) (simp c.apply-all-used.ensures.exact) (omega arith) c.apply-all-used.auto.words
+    propagating_more _ _ _ _ _ _ c.loop-turn.invariant c.loop-turn-test.true _ (omega arith) c.in-Forces.literal c.fix.new.table c.apply_all-used.new.words
+    c.apply_all-used.result c.in-Forces.ensures (simp c.fix.ensures) (simp c.apply_all-used.ensures.exact) (omega arith) c.apply_all-used.auto.words
 
 pub returns : goal.returns
 returns c = propagating_all _ _ _ _ _ _ c.loop-turn.invariant c.loop-turn-test.false

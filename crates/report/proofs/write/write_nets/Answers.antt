@@ -12,7 +12,7 @@ loop-i-init c = filling_none _ _
 pub loop-i-preserved : goal.loop-i-preserved
 loop-i-preserved c =
     filling_more _ _ _ _ c.loop-i.invariant (omega arith) (omega arith) (19 * c.loop-i.i + 19 - 19 * c.loop-i.i)
-    c.copy-from-slice.new.self (omega arith) (c.copy-from-slice.ensures.after ∙ c.kind-line-bytes.ensures ∙ ap (kind_line (c.loop-i.i + 1)) c.kind-of.ensures)
+    c.copy_from_slice.new.self (omega arith) (c.copy_from_slice.ensures.after ∙ c.kind_line-bytes.ensures ∙ ap (kind_line (c.loop-i.i + 1)) c.kind_of.ensures)
 
 pub returns : goal.returns
 returns c =

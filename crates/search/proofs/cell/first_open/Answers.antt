@@ -8,7 +8,7 @@ use Rattle.search.proofs.cell.first_open.Goals as goal
 pub loop-i-preserved : goal.loop-i-preserved
 loop-i-preserved c =
     let step = at_drop_more open_count c.args.cells.now c.loop-i.i Open c.loop-i-test.true in
-    let shut = gap-closed _ c.in-default.not-Open in
+    let shut = gap-closed _ c.in_default.not-Open in
     let inv = c.loop-i.invariant in
     omega arith
 

@@ -7,10 +7,10 @@ use Rattle.search.proofs.state.keep.Goals as goal
 pub loop-x-preserved : goal.loop-x-preserved
 loop-x-preserved c =
     let inv = c.loop-x.invariant in
-    let p = c.push-reserved.ensures in
+    let p = c.push_reserved.ensures in
     let cs = c.args.cells.now in
     let i = c.loop-x.x-index in (
-      p.items ∙ ap (λ xs. xs ++ c.is-yes.result ∷ []) inv.0 ∙ ap (λ b. bits (take i cs) ++ b ∷ []) c.is-yes.ensures ∙ sym (map_more is_yes cs i Open c.loop-x-test.true),
+      p.items ∙ ap (λ xs. xs ++ c.is_yes.result ∷ []) inv.0 ∙ ap (λ b. bits (take i cs) ++ b ∷ []) c.is_yes.ensures ∙ sym (map_more is_yes cs i Open c.loop-x-test.true),
       omega arith,
       p.capacity ∙ inv.2,
     )

@@ -5,8 +5,8 @@ use Rattle.sheet.proofs.store.join_all.Goals as goal
 pub loop-i-init : goal.loop-i-init
 loop-i-init c = joining_all_none _ _ c.requires
 
-pub slice-bounds-join-end : goal.slice-bounds-join-end
-slice-bounds-join-end c = here_fits _ _ _ _ c.loop-i.invariant c.loop-i-test.true
+pub slice_bounds-join-end : goal.slice_bounds-join-end
+slice_bounds-join-end c = here_fits _ _ _ _ c.loop-i.invariant c.loop-i-test.true
 
 pub join-requires : goal.join-requires
 join-requires c = here_named _ _ _ _ c.loop-i.invariant c.loop-i-test.true

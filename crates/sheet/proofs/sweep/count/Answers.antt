@@ -7,11 +7,11 @@ use Rattle.sheet.proofs.sweep.count.Goals.{then-free+then-after-v+then-after-v-l
 pub loop-v-init : goal.loop-v-init
 loop-v-init c = record { of_fixed = refl; of_tied = refl }
 
-pub overflow-add-fixed : goal.overflow-add-fixed
-overflow-add-fixed c = let k = counts_few _ _ _ _ _ c.loop-v.invariant in omega arith
+pub overflow_add-fixed : goal.overflow_add-fixed
+overflow_add-fixed c = let k = counts_few _ _ _ _ _ c.loop-v.invariant in omega arith
 
-pub overflow-add-tied : goal.overflow-add-tied
-overflow-add-tied c = let k = counts_few _ _ _ _ _ c.loop-v.invariant in omega arith
+pub overflow_add-tied : goal.overflow_add-tied
+overflow_add-tied c = let k = counts_few _ _ _ _ _ c.loop-v.invariant in omega arith
 
 pub loop-v-preserved : goal.loop-v-preserved
 loop-v-preserved c =

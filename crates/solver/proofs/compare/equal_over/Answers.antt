@@ -3,8 +3,8 @@ use Rattle.solver.proofs.compare.equal_over.Goals as goal
 
 pub returns : goal.returns
 returns g c =
-    let there = c.in-ok-implies.ensures in
-    let back = c.in-ok-implies-2.ensures in
+    let there = c.in_ok-implies.ensures in
+    let back = c.in_ok-implies-2.ensures in
     record {
       compared = (there.implied.0, λ a s. let f = there.implied.1.0 c.if-not-branch.false a s in let h = back.implied.1.0 c.if-not-branch-2.false a s in grind arith);
       tallied = omega (arith, there.tallied, back.tallied);

@@ -6,8 +6,8 @@ pub returns : goal.returns
 returns g c =
     let m = c.args.m in
     let ws = c.args.list.now in
-    let s = rw c.opposite.ensures at c.in-ok-found.ensures in
+    let s = rw c.opposite.ensures at c.in_ok-found.ensures in
     record {
-      implied = (sym (accepts-opp _ m ws c.args.c c.args.d) ∙ s.0, implied m ws c.args.c c.args.d c.in-ok-found.found (g.S.Solver.kept c.search.new.self) s.2);
+      implied = (sym (accepts-opp _ m ws c.args.c c.args.d) ∙ s.0, implied m ws c.args.c c.args.d c.in_ok-found.found (g.S.Solver.kept c.search.new.self) s.2);
       tallied = omega (arith, s.1);
     }

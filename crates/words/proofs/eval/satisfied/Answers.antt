@@ -5,20 +5,20 @@ use Rattle.cnf.specs.Words.{read}
 use Rattle.cnf.proofs.Reading.{clause_at_lem, read-nil}
 use Rattle.words.proofs.eval.satisfied.Goals as goal
 
-pub returns-then-not-clause-true : goal.returns-then-not-clause-true
-returns-then-not-clause-true c =
-    let p = clause_at_lem c.args.list.now c.loop-i.i c.clause-end-end.result c.loop-i-test.true c.clause-end-end.ensures.ends in
+pub returns-then-not-clause_true : goal.returns-then-not-clause_true
+returns-then-not-clause_true c =
+    let p = clause_at_lem c.args.list.now c.loop-i.i c.clause_end-end.result c.loop-i-test.true c.clause_end-end.ensures.ends in
     let e = ap (clauses (told c.args.bits.now)) p.parts in
     let i = c.loop-i.invariant in
-    let f = c.if-not-clause-true.ensures in
+    let f = c.if-not-clause_true.ensures in
     grind arith
 
 pub loop-i-preserved : goal.loop-i-preserved
 loop-i-preserved c =
-    let p = clause_at_lem c.args.list.now c.loop-i.i c.clause-end-end.result c.loop-i-test.true c.clause-end-end.ensures.ends in
+    let p = clause_at_lem c.args.list.now c.loop-i.i c.clause_end-end.result c.loop-i-test.true c.clause_end-end.ensures.ends in
     let e = ap (clauses (told c.args.bits.now)) p.parts in
     let i = c.loop-i.invariant in
-    let f = c.if-not-clause-true.ensures in
+    let f = c.if-not-clause_true.ensures in
     grind arith
 
 pub returns : goal.returns

@@ -3,8 +3,8 @@ use Rattle.cnf.specs.Table.{Tabled}
 use Rattle.cnf.proofs.Entries.{fresh_tabled}
 use Rattle.cnf.proofs.table.Table.fresh.Goals as goal
 
-pub invariant-of-result : goal.invariant-of-result
-invariant-of-result c =
-    let made = c.in-ok-entries.ensures in
+pub invariant_of-result : goal.invariant_of-result
+invariant_of-result c =
+    let made = c.in_ok-entries.ensures in
     let w = subst Tabled (sym made.0) (fresh_tabled c.args.nets) in
-    (w.constants, (w.opposites, (w.lower, (w.itself, (omega arith, omega arith)))))
+    record { constants = w.constants; opposites = w.opposites; lower = w.lower; itself = w.itself; size = (omega arith, omega arith) }

@@ -7,9 +7,9 @@ pub returns : goal.returns
 returns c =
     let ws : List ℕ = vec_items c.args.self.now.words in
     let now : List ℕ = vec_items c.args.self.now.current in
-    let vs : List ℕ = vec_items c.extend-from-slice.new.self in
+    let vs : List ℕ = vec_items c.extend_from_slice.new.self in
     let v = pushed ws (vec_items c.push.new.self) vs now c.deref.result.now c.len-len.result
-    c.in-ok-push.ensures.items c.in-ok-extend-from-slice.ensures.items c.deref.ensures.value
+    c.in_ok-push.ensures.items c.in_ok-extend_from_slice.ensures.items c.deref.ensures.value
     (c.len-len.ensures ∙ c.args.self.now.current.ok.0) in
     let r = read_push ws now vs c.requires.0.exact v in
     record {

@@ -13,7 +13,7 @@ returns-in-LineStart-CommentMark c =
 
 pub returns-in-LineStart-Feed : goal.returns-in-LineStart-Feed
 returns-in-LineStart-Feed c =
-    moved c.args.self.now _ _ _ _ c.next-line.ensures
+    moved c.args.self.now _ _ _ _ c.next_line.ensures
     (body_empty c.args.self.now c.args.byte c.requires.sane c.requires.more c.requires.byte c.args.problem c.requires.some c.in-LineStart-Feed.is-0 (sym c.in-LineStart-Feed.ensures))
 
 pub returns-in-LineStart-Blank : goal.returns-in-LineStart-Blank
@@ -28,17 +28,17 @@ returns-in-LineStart-Other c =
 
 pub returns-in-Comment-Feed : goal.returns-in-Comment-Feed
 returns-in-Comment-Feed c =
-    moved c.args.self.now _ _ _ _ c.next-line-in-Comment-Feed.ensures
+    moved c.args.self.now _ _ _ _ c.next_line-in-Comment-Feed.ensures
     (body_comment_ends c.args.self.now c.args.byte c.requires.sane c.requires.more c.requires.byte c.args.problem c.requires.some c.in-Comment-Feed.is-0 (sym c.in-Comment-Feed.ensures))
 
 pub returns-in-Comment-default : goal.returns-in-Comment-default
 returns-in-Comment-default c =
-    let no : c.class-of.result ≡ Feed → ⊥ = search rules in
-    body_comment_on c.args.self.now c.args.byte c.requires.sane c.requires.more c.requires.byte c.args.problem c.requires.some c.in-Comment-default.is-0 (λ e. no (c.class-of.ensures ∙ e))
+    let no : c.class_of.result ≡ Feed → ⊥ = search rules in
+    body_comment_on c.args.self.now c.args.byte c.requires.sane c.requires.more c.requires.byte c.args.problem c.requires.some c.in-Comment-default.is-0 (λ e. no (c.class_of.ensures ∙ e))
 
 pub returns-in-Gap-Feed : goal.returns-in-Gap-Feed
 returns-in-Gap-Feed c =
-    moved c.args.self.now _ _ _ _ c.next-line-in-Gap-Feed.ensures
+    moved c.args.self.now _ _ _ _ c.next_line-in-Gap-Feed.ensures
     (gap_ends c.args.self.now c.args.byte c.requires.sane c.requires.more c.requires.byte c.args.problem c.requires.some c.in-Gap-Feed.is-0 (sym c.in-Gap-Feed.ensures))
 
 pub returns-in-Gap-Blank : goal.returns-in-Gap-Blank
@@ -47,35 +47,35 @@ returns-in-Gap-Blank c =
 
 pub returns-in-Gap-default : goal.returns-in-Gap-default
 returns-in-Gap-default c =
-    let no : c.class-of.result ≡ Feed → ⊥ = search rules in
-    let nor : c.class-of.result ≡ Blank → ⊥ = search rules in
+    let no : c.class_of.result ≡ Feed → ⊥ = search rules in
+    let nor : c.class_of.result ≡ Blank → ⊥ = search rules in
     moved c.args.self.now _ _ _ _ c.begin-in-Gap-default.ensures
-    (gap_begins c.args.self.now c.args.byte c.requires.sane c.requires.more c.requires.byte c.args.problem c.requires.some c.in-Gap-default.is-0 (λ e. no (c.class-of.ensures ∙ e)) (λ e. nor (c.class-of.ensures ∙ e)))
+    (gap_begins c.args.self.now c.args.byte c.requires.sane c.requires.more c.requires.byte c.args.problem c.requires.some c.in-Gap-default.is-0 (λ e. no (c.class_of.ensures ∙ e)) (λ e. nor (c.class_of.ensures ∙ e)))
 
 pub returns-in-Number-default : goal.returns-in-Number-default
 returns-in-Number-default c =
-    let no : c.class-of.result ≡ Feed → ⊥ = search rules in
-    let nor : c.class-of.result ≡ Blank → ⊥ = search rules in
-    number_goes c.args.self.now c.args.byte c.requires.sane c.requires.more c.requires.byte c.args.problem c.requires.some c.in-Number-default.is-0 (λ e. no (c.class-of.ensures ∙ e)) (λ e. nor (c.class-of.ensures ∙ e))
+    let no : c.class_of.result ≡ Feed → ⊥ = search rules in
+    let nor : c.class_of.result ≡ Blank → ⊥ = search rules in
+    number_goes c.args.self.now c.args.byte c.requires.sane c.requires.more c.requires.byte c.args.problem c.requires.some c.in-Number-default.is-0 (λ e. no (c.class_of.ensures ∙ e)) (λ e. nor (c.class_of.ensures ∙ e))
 
-pub returns-in-ok-take-number : goal.returns-in-ok-take-number
-returns-in-ok-take-number c =
+pub returns-in_ok-take_number : goal.returns-in_ok-take_number
+returns-in_ok-take_number c =
     moved c.args.self.now _ _ _ _ c.enter-in-Number-Blank.ensures
-    (number-gap c.args.self.now c.args.byte c.requires.sane c.requires.more c.requires.byte c.args.problem c.requires.some _ c.in-Number-Blank.is-0 (sym c.in-Number-Blank.ensures) c.in-ok-take-number.ensures)
+    (number-gap c.args.self.now c.args.byte c.requires.sane c.requires.more c.requires.byte c.args.problem c.requires.some _ c.in-Number-Blank.is-0 (sym c.in-Number-Blank.ensures) c.in_ok-take_number.ensures)
 
-pub returns-in-ok-take-number-2 : goal.returns-in-ok-take-number-2
-returns-in-ok-take-number-2 c =
-    moved c.args.self.now _ _ _ _ c.next-line-in-Number-Feed.ensures
-    (number-line c.args.self.now c.args.byte c.requires.sane c.requires.more c.requires.byte c.args.problem c.requires.some _ c.in-Number-Feed.is-0 (sym c.in-Number-Feed.ensures) c.in-ok-take-number-2.ensures)
+pub returns-in_ok-take_number-2 : goal.returns-in_ok-take_number-2
+returns-in_ok-take_number-2 c =
+    moved c.args.self.now _ _ _ _ c.next_line-in-Number-Feed.ensures
+    (number-line c.args.self.now c.args.byte c.requires.sane c.requires.more c.requires.byte c.args.problem c.requires.some _ c.in-Number-Feed.is-0 (sym c.in-Number-Feed.ensures) c.in_ok-take_number-2.ensures)
 
-pub returns-in-err-take-number : goal.returns-in-err-take-number
-returns-in-err-take-number c =
-    let p = err_from_is_err_and c.from-residual.result c.from-residual.ensures.1 in
-    at_err c.from-residual.result _ (meaning c.args.self.now) p.0 c.in-err-take-number.field-0.0 p.1 p.2
-    (number-gap_stops c.args.self.now c.args.byte c.requires.sane c.requires.more c.requires.byte c.args.problem c.requires.some c.in-err-take-number.field-0.0 c.in-Number-Blank.is-0 (sym c.in-Number-Blank.ensures) c.in-err-take-number.ensures)
+pub returns-in_err-take_number : goal.returns-in_err-take_number
+returns-in_err-take_number c =
+    let p = err_from_is_err_and c.from_residual.result c.from_residual.ensures.1 in
+    at_err c.from_residual.result _ (meaning c.args.self.now) p.0 c.in_err-take_number.field-0.0 p.1 p.2
+    (number-gap_stops c.args.self.now c.args.byte c.requires.sane c.requires.more c.requires.byte c.args.problem c.requires.some c.in_err-take_number.field-0.0 c.in-Number-Blank.is-0 (sym c.in-Number-Blank.ensures) c.in_err-take_number.ensures)
 
-pub returns-in-err-take-number-2 : goal.returns-in-err-take-number-2
-returns-in-err-take-number-2 c =
-    let p = err_from_is_err_and c.from-residual-in-err-take-number-2.result c.from-residual-in-err-take-number-2.ensures.1 in
-    at_err c.from-residual-in-err-take-number-2.result _ (meaning c.args.self.now) p.0 c.in-err-take-number-2.field-0.0 p.1 p.2
-    (number-line_stops c.args.self.now c.args.byte c.requires.sane c.requires.more c.requires.byte c.args.problem c.requires.some c.in-err-take-number-2.field-0.0 c.in-Number-Feed.is-0 (sym c.in-Number-Feed.ensures) c.in-err-take-number-2.ensures)
+pub returns-in_err-take_number-2 : goal.returns-in_err-take_number-2
+returns-in_err-take_number-2 c =
+    let p = err_from_is_err_and c.from_residual-in_err-take_number-2.result c.from_residual-in_err-take_number-2.ensures.1 in
+    at_err c.from_residual-in_err-take_number-2.result _ (meaning c.args.self.now) p.0 c.in_err-take_number-2.field-0.0 p.1 p.2
+    (number-line_stops c.args.self.now c.args.byte c.requires.sane c.requires.more c.requires.byte c.args.problem c.requires.some c.in_err-take_number-2.field-0.0 c.in-Number-Feed.is-0 (sym c.in-Number-Feed.ensures) c.in_err-take_number-2.ensures)

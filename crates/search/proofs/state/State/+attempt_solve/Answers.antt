@@ -11,8 +11,8 @@ use Rattle.search.proofs.state.State.+attempt_solve.Goals as goal
 formed : (ws : List ℕ) (s t : State) → Grew s t → well (length (cells_of s)) ws ≡ true → well (length (cells_of t)) ws ≡ true
 formed ws s t g h = ap (λ k. well k ws) g.size ∙ h
 
-pub attempt-solve-requires : goal.attempt-solve-requires
-attempt-solve-requires t c =
+pub attempt_solve-requires : goal.attempt_solve-requires
+attempt_solve-requires t c =
     let n = c.assign.ensures in
     (omega (arith, c.decreases, n.count), (n.sound, formed c.args.list.now c.args.self.now _ n.grew c.requires.formed))
 
@@ -61,11 +61,11 @@ solve-returns-then-not-propagate t c =
     let m = taken_back c.args.self.now _ _ c.undo.new.self _ c.len-mark.ensures p.grew (same_refl _) u.cells u.trail u.room in
     record { sound = u.sound; size = ap length m.cells; room = m.room; solved = record { same = m; none = p.done } }
 
-pub solve-returns-in-default : goal.solve-returns-in-default
-solve-returns-in-default t c =
+pub solve-returns-in_default : goal.solve-returns-in_default
+solve-returns-in_default t c =
     let p = c.if-not-propagate.ensures in
     let cs = cells_of c.propagate.new.self in
-    let none : open_count cs ≡ 0 = sym (ap open_count c.deref.ensures.value) ∙ c.in-default.ensures in
+    let none : open_count cs ≡ 0 = sym (ap open_count c.deref.ensures.value) ∙ c.in_default.ensures in
     record {
       sound = p.sound;
       size = p.grew.size;

@@ -6,8 +6,8 @@ use Rattle.search.proofs.Assuming.{Assuming, assuming_known, assuming_yes, assum
 use Rattle.search.proofs.state.State.assume.Goals as goal
 use Rattle.search.proofs.state.State.assume.Goals.{in-Yes, in-Open}
 
-pub look-at-requires : goal.look-at-requires
-look-at-requires c =
+pub look_at-requires : goal.look_at-requires
+look_at-requires c =
     ap (λ x. named (length x) (get_or c.args.assumed.now c.loop-code.code-index 0)) c.deref.ensures.value
     ∙ assuming_known c.args.assumed.now c.args.self.now c.loop-code.self c.loop-code.code-index c.loop-code.invariant c.loop-code-test.true
 
@@ -38,7 +38,7 @@ loop-code-preserved c =
     let i = c.loop-code.code-index in
     let w = get_or ws i 0 in
     let P : State → Type 0 = λ x. Assuming ws s x (i + 1) in
-    elim c.match-look-at.branch [
+    elim c.match-look_at.branch [
       | in-Yes y ↦ subst P (sym y.self-is) (assuming_yes ws s t i c.loop-code.invariant c.loop-code-test.true (y.in-Yes.ensures ∙ ap (λ x. look x w) c.deref.ensures.value))
       | in-Open y ↦ let n = y.assign.ensures in subst P (sym y.self-is) (assuming_open ws s t i c.loop-code.invariant c.loop-code-test.true y.assign.new.self n.cells n.grew n.sound)
     ]

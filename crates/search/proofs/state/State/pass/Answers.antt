@@ -28,8 +28,8 @@ settled : (cs : List Cell) (ws : List ℕ) (r : Status) → (r ≡ Satisfied) �
 settled cs ws r (inl e) h z = let k : Weighed cs ws Satisfied = subst (Weighed cs ws) e h in k (told (bits cs)) (bits_extend cs)
 settled cs ws r (inr e) h z = let k : Weighed cs ws Unresolved = subst (Weighed cs ws) e h in absurd (omega arith)
 
-pub slice-bounds-weigh-end : goal.slice-bounds-weigh-end
-slice-bounds-weigh-end c =
+pub slice_bounds-weigh-end : goal.slice_bounds-weigh-end
+slice_bounds-weigh-end c =
     let at = clause_here _ c.args.list.now c.loop-i.i c.loop-i-test.true c.loop-i.invariant.formed in
     omega (arith, at.fits)
 

@@ -5,15 +5,15 @@ use Rattle.search.specs.Cells.{open_count}
 use Rattle.search.proofs.CellFacts.{count_replicate}
 use Rattle.search.proofs.state.State.reset.Goals as goal
 
-pub push-reserved-requires : goal.push-reserved-requires
-push-reserved-requires c =
+pub push_reserved-requires : goal.push_reserved-requires
+push_reserved-requires c =
     let inv = c.loop-self.invariant in
     omega (arith, c.len.ensures, ap (λ p. p.0) inv.3, c.clear-2.ensures.capacity, c.requires.cells, c.requires.small, c.loop-self-test.true)
 
 pub loop-self-preserved : goal.loop-self-preserved
 loop-self-preserved c =
     let inv = c.loop-self.invariant in
-    let p = c.push-reserved.ensures in
+    let p = c.push_reserved.ensures in
     let s = c.loop-self.self in (
       p.items ∙ ap (λ xs. xs ++ Open ∷ []) inv.0 ∙ replicate_more s.cells.len Open ∙ ap (λ k. replicate k Open) (sym p.len),
       omega (arith, p.len, c.len.ensures, c.loop-self-test.true),

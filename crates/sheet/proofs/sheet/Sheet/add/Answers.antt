@@ -14,22 +14,22 @@ same o t u c d e p q = e ∙ ap (λ x. applied (by x) c) p ∙ ap (applied (by u
 pub store-requires : goal.store-requires
 store-requires c =
     let s = state_of c.args.self.now in
-    storable s c.args.clause.now (sheet_kept c.args.self.now).sound c.if-is-contradictory.ensures c.if-clause-gt-MAX-LITERALS.false
-    (sym (c.if-not-all-named.ensures ∙ ap (λ n. inside n c.args.clause.now) c.nets.ensures)) _
-    (ap Some (front c.in-Some.count c.apply.new.body _ refl) ∙ same _ _ _ _ _ c.in-Some.ensures.applies.exact c.deref.ensures.value c.copy-from-slice.ensures.after)
+    storable s c.args.clause.now (sheet_kept c.args.self.now).sound c.if-is_contradictory.ensures c.if-clause-gt-MAX_LITERALS.false
+    (sym (c.if-not-all_named.ensures ∙ ap (λ n. inside n c.args.clause.now) c.nets.ensures)) _
+    (ap Some (front c.in-Some.count c.apply.new.body _ refl) ∙ same _ _ _ _ _ c.in-Some.ensures.applies.exact c.deref.ensures.value c.copy_from_slice.ensures.after)
 
 pub returns-in-None : goal.returns-in-None
 returns-in-None c =
     let s = state_of c.args.self.now in
-    let d = vanished s c.args.clause.now (sheet_kept c.args.self.now).sound c.if-is-contradictory.ensures c.if-clause-gt-MAX-LITERALS.false
-    (sym (c.if-not-all-named.ensures ∙ ap (λ n. inside n c.args.clause.now) c.nets.ensures)) (same _ _ _ _ _ c.in-None.ensures.applies.exact c.deref.ensures.value c.copy-from-slice.ensures.after) in
+    let d = vanished s c.args.clause.now (sheet_kept c.args.self.now).sound c.if-is_contradictory.ensures c.if-clause-gt-MAX_LITERALS.false
+    (sym (c.if-not-all_named.ensures ∙ ap (λ n. inside n c.args.clause.now) c.nets.ensures)) (same _ _ _ _ _ c.in-None.ensures.applies.exact c.deref.ensures.value c.copy_from_slice.ensures.after) in
     record { does = d; law = addition_law s s c.args.clause.now (Ok (tt {0})) (sheet_kept c.args.self.now).sound d }
 
 pub returns-in-Some : goal.returns-in-Some
 returns-in-Some c =
     let s = state_of c.args.self.now in
-    let d = stored s c.args.clause.now (sheet_kept c.args.self.now).sound c.if-is-contradictory.ensures c.if-clause-gt-MAX-LITERALS.false
-    (sym (c.if-not-all-named.ensures ∙ ap (λ n. inside n c.args.clause.now) c.nets.ensures)) _
-    (ap Some (front c.in-Some.count c.apply.new.body _ refl) ∙ same _ _ _ _ _ c.in-Some.ensures.applies.exact c.deref.ensures.value c.copy-from-slice.ensures.after)
+    let d = stored s c.args.clause.now (sheet_kept c.args.self.now).sound c.if-is_contradictory.ensures c.if-clause-gt-MAX_LITERALS.false
+    (sym (c.if-not-all_named.ensures ∙ ap (λ n. inside n c.args.clause.now) c.nets.ensures)) _
+    (ap Some (front c.in-Some.count c.apply.new.body _ refl) ∙ same _ _ _ _ _ c.in-Some.ensures.applies.exact c.deref.ensures.value c.copy_from_slice.ensures.after)
     _ _ c.store.ensures in
     record { does = d; law = addition_law s (state_of c.store.new.self) c.args.clause.now _ (sheet_kept c.args.self.now).sound d }

@@ -11,27 +11,27 @@ landed : (t w : Vec ℕ Global) (m : Vec Bool Global) (n : ℕ) → n ≤ 2000 �
 landed t w m n h e lt lm z =
     lands_opened t.items w.items m.items n h e (sym m.ok.0 ∙ lm ∙ sym lt ∙ t.ok.0) (cleared m.items m.items (n + 1) (sym lm ∙ m.ok.0) z).1
 
-pub invariant-of-result : goal.invariant-of-result
-invariant-of-result c =
-    let t = c.in-ok-own-entries.field-0 in
-    let made = c.in-ok-own-entries.ensures in
-    let m = c.in-ok-vec.ensures in
+pub invariant_of-result : goal.invariant_of-result
+invariant_of-result c =
+    let t = c.in_ok-own_entries.field-0 in
+    let made = c.in_ok-own_entries.ensures in
+    let m = c.in_ok-vec.ensures in
     ghosts _ _ _ _ _ _ _ _ _ _ _
-    (landed t c.new.result c.in-ok-vec.field-0 c.args.nets c.if-nets-gt-MAX-NETS.false made.0 made.1 m.made.1 (m.exact (λ _ e. e))).holds
+    (landed t c.new.result c.in_ok-vec.field-0 c.args.nets c.if-nets-gt-MAX_NETS.false made.0 made.1 m.made.1 (m.exact (λ _ e. e))).holds
     t.ok.0 c.new.result.ok.0 (
       m.made.1 ∙ sym made.1,
-      c.in-ok-vec-2.ensures.made.1 ∙ sym made.1,
-      c.in-ok-vec-3.ensures.made.1 ∙ sym made.1,
-      c.in-ok-vec-4.ensures.made.1 ∙ sym made.1,
-      c.in-ok-new.ensures.1 ∙ sym made.1,
+      c.in_ok-vec-2.ensures.made.1 ∙ sym made.1,
+      c.in_ok-vec-3.ensures.made.1 ∙ sym made.1,
+      c.in_ok-vec-4.ensures.made.1 ∙ sym made.1,
+      c.in_ok-new.ensures.1 ∙ sym made.1,
     )
 
 pub returns : goal.returns
 returns c =
-    let made = c.in-ok-own-entries.ensures in
-    let m = c.in-ok-vec.ensures in (
-      c.if-nets-gt-MAX-NETS.false,
-      (landed c.in-ok-own-entries.field-0 c.new.result c.in-ok-vec.field-0 c.args.nets c.if-nets-gt-MAX-NETS.false made.0 made.1 m.made.1 (m.exact (λ _ e. e))).is
+    let made = c.in_ok-own_entries.ensures in
+    let m = c.in_ok-vec.ensures in (
+      c.if-nets-gt-MAX_NETS.false,
+      (landed c.in_ok-own_entries.field-0 c.new.result c.in_ok-vec.field-0 c.args.nets c.if-nets-gt-MAX_NETS.false made.0 made.1 m.made.1 (m.exact (λ _ e. e))).is
           ∙ ap (λ xs. opened c.args.nets (min (length xs) 30000)) c.new.ensures.items,
       refl,
     )

@@ -37,11 +37,11 @@ fn sweep_numbered<S: Solver>(
     bits: &mut [bool],
     table: &mut [u16],
 ) -> bool
-    requires size { (Room (length table.old) old.now names.old split.old spare.old bits.old) × ((m < length table.old) × ((length table.old ≤ 2001) × (m ≤ most))) }
+    requires size { (Room (length table.old) old.now names.old split.old spare.old bits.old) × ((m < length table.old) × ((length table.old ≤ 2001) × (m ≤ S.most))) }
     requires good { well m work.old ≡ true }
     requires rises { Rises old.now (length table.old - 1) m }
     ensures answer { CarriedBack m (read work.old) old.now table.old table.new result }
-    ensures tallied { tally solver.new ≤ tally solver.old + 2 * m + 1 }
+    ensures tallied { S.tally solver.new ≤ S.tally solver.old + 2 * m + 1 }
 {
     let part = &mut names[..m + 1];
     if !sweep_set(
@@ -67,7 +67,7 @@ pub fn sweep_group<S: Solver>(
     work: &mut [u16],
     table: &mut [u16],
 ) -> Result<bool, SheetFault>
-    ensures answer { Grouped tally most (vec_len scratch.entry.now.rank) list.now (length work.old) table.old table.new solver.old solver.new result }
+    ensures answer { Grouped S.tally S.most (vec_len scratch.entry.now.rank) list.now (length work.old) table.old table.new solver.old solver.new result }
     ensures size { vec_len scratch.exit.now.rank ≡ vec_len scratch.entry.now.rank }
 {
     let size = scratch.rank.len();

@@ -13,9 +13,9 @@ use words::apply::apply_all;
 
 // A search that cannot be refused.
 pub(crate) fn ask<S: Solver>(solver: &mut S, m: usize, list: &[u16], assumed: &[u16]) -> bool
-    requires { accepts most m list.now assumed.now ≡ true }
-    ensures answer { Asked m list.now assumed.now (kept solver.new) result }
-    ensures tallied { tally solver.new ≤ tally solver.old + 1 }
+    requires { accepts S.most m list.now assumed.now ≡ true }
+    ensures answer { Asked m list.now assumed.now (S.kept solver.new) result }
+    ensures tallied { S.tally solver.new ≤ S.tally solver.old + 1 }
 {
     match solver.search(m, list, assumed) {
         Ok(found) => found,
@@ -25,7 +25,7 @@ pub(crate) fn ask<S: Solver>(solver: &mut S, m: usize, list: &[u16], assumed: &[
 
 // The value of a literal in what is kept; a variable that has no bit is false, and so is the constant.
 pub(crate) fn look<S: Solver>(solver: &S, code: u16) -> bool
-    ensures { result ≡ lit (held (kept solver.now)) code }
+    ensures { result ≡ lit (held (S.kept solver.now)) code }
 {
     let bit = solver.value(variable(code)).unwrap_or(false);
     if code % 2 == 0 { bit } else { !bit }
@@ -33,9 +33,9 @@ pub(crate) fn look<S: Solver>(solver: &S, code: u16) -> bool
 
 // Looks for a model in which a variable and a lower literal differ. Either of them can be the true one, so both ways are searched.
 fn differ<S: Solver>(solver: &mut S, m: usize, list: &[u16], v: usize, old: u16) -> bool
-    requires { (m ≤ most) × ((well m list.now ≡ true) × ((1 ≤ v) × ((v ≤ m) × (old / 2 ≤ v)))) }
-    ensures answer { Differs m (read list.now) (2 * v) old (kept solver.new) result }
-    ensures tallied { tally solver.new ≤ tally solver.old + 2 }
+    requires { (m ≤ S.most) × ((well m list.now ≡ true) × ((1 ≤ v) × ((v ≤ m) × (old / 2 ≤ v)))) }
+    ensures answer { Differs m (read list.now) (2 * v) old (S.kept solver.new) result }
+    ensures tallied { S.tally solver.new ≤ S.tally solver.old + 2 }
 {
     let own = (2 * v) as u16;
     if old < 2 {
@@ -50,8 +50,8 @@ fn differ<S: Solver>(solver: &mut S, m: usize, list: &[u16], v: usize, old: u16)
 
 // The model that is kept, with settled variables at the value of their names: a model of the list that they were replaced in.
 fn recall<S: Solver>(solver: &S, m: usize, names: &[u16], v: usize, bits: &mut [bool])
-    requires { (Keeps m (kept solver.now)) × ((length names.now ≡ m + 1) × ((length bits.old ≡ m) × ((m ≤ 2000) × (Tabled names.now)))) }
-    ensures { told bits.new ≡ via (held (kept solver.now)) (settled names.now v) }
+    requires { (Keeps m (S.kept solver.now)) × ((length names.now ≡ m + 1) × ((length bits.old ≡ m) × ((m ≤ 2000) × (Tabled names.now)))) }
+    ensures { told bits.new ≡ via (held (S.kept solver.now)) (settled names.now v) }
 {
     for i in 0..m {
         let w = i + 1;
@@ -73,14 +73,14 @@ pub(crate) fn settle<S: Solver>(
     spare: &mut [u16],
     bits: &mut [bool],
 ) -> usize
-    requires size { (Spaces m names.old split.old spare.old bits.old) × ((left ≤ length work.old) × ((m ≤ most) × ((1 ≤ v) × (v ≤ m)))) }
+    requires size { (Spaces m names.old split.old spare.old bits.old) × ((left ≤ length work.old) × ((m ≤ S.most) × ((1 ≤ v) × (v ≤ m)))) }
     requires good { well m (take left work.old) ≡ true }
     requires tabled { Tabled names.old }
     requires plain { Plain spare.old }
     ensures fewer { result ≤ left }
     ensures good { well m (take result work.new) ≡ true }
     ensures plain { Plain spare.new }
-    ensures tallied { tally solver.new ≤ tally solver.old + 2 }
+    ensures tallied { S.tally solver.new ≤ S.tally solver.old + 2 }
     ensures step { (cs : List (List ℕ)) → Sweeping cs names.old v (read (take left work.old)) → Sweeping cs names.new (v + 1) (read (take result work.new)) }
 {
     let own = (2 * v) as u16;

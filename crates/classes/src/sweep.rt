@@ -9,7 +9,7 @@ use solver::Solver;
 // The first classes: what is true in the model that is kept, and what is false.
 fn start<S: Solver>(solver: &S, names: &mut [u16], spare: &mut [u16])
     requires { (length spare.old ≡ length names.old) × (length names.old ≤ 2001) }
-    ensures named { (w : ℕ) → w < length names.new → slice_index names.new w ≡ (if held (kept solver.now) w then 1 else 0) }
+    ensures named { (w : ℕ) → w < length names.new → slice_index names.new w ≡ (if held (S.kept solver.now) w then 1 else 0) }
     ensures plain { Plain spare.new }
 {
     for w in 0..names.len() {
@@ -29,10 +29,10 @@ pub(crate) fn sweep_set<S: Solver>(
     spare: &mut [u16],
     bits: &mut [bool],
 ) -> bool
-    requires size { (Spaces m names.old split.old spare.old bits.old) × (m ≤ most) }
+    requires size { (Spaces m names.old split.old spare.old bits.old) × (m ≤ S.most) }
     requires good { well m work.old ≡ true }
     ensures answer { Sweeps m (read work.old) names.new result }
-    ensures tallied { tally solver.new ≤ tally solver.old + 2 * m + 1 }
+    ensures tallied { S.tally solver.new ≤ S.tally solver.old + 2 * m + 1 }
 {
     if !ask(solver, m, work, &[]) {
         return false;

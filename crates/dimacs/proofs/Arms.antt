@@ -1,5 +1,5 @@
 -- What the reader does with a byte, arm by arm. Assumes nothing.
-use Rattle.std.proofs.Common.{◌≡◌, ℕ, ◌+◌, ◌<◌, ◌≤◌, List, ◌∷◌, length, get_or, Some, None, Ok, Err, Option, sym, refl, ap, ◌∙◌, subst, arith}
+use Rattle.std.proofs.Common.{◌≡◌, ℕ, ◌+◌, ◌<◌, ◌≤◌, List, ◌∷◌, length, get_or, Some, None, Ok, Err, Option, refl, ap, ◌∙◌, subst, arith}
 use Rattle.faults.specs.declared.Fault.TheVariants.{Reader}
 use Rattle.faults.specs.declared.ReaderFault.TheVariants.{HeaderForm}
 use Rattle.dimacs.specs.declared.clauses.Clauses.{Clauses}
@@ -9,8 +9,8 @@ use Rattle.dimacs.specs.declared.reader.State.{State}
 use Rattle.dimacs.specs.declared.reader.State.TheVariants.{LineStart, Comment, Header, Gap, Number}
 use Rattle.dimacs.specs.declared.reader.Class.TheVariants.{Feed, Blank, CommentMark, Other}
 use Rattle.dimacs.specs.declared.reader.Reader as reader
-use Rattle.dimacs.specs.Text.{fault, tokens, placed, headed}
-use Rattle.dimacs.specs.Machine.{class_of, next_of, lines_from, tokens_from, part, meaning, Phase, Problemed, Numbered, Refuses, Headed, Sane, Stops, Stepped}
+use Rattle.dimacs.specs.Text.{fault, tokens, headed}
+use Rattle.dimacs.specs.Machine.{class_of, next_of, lines_from, part, meaning, Phase, Problemed, Numbered, Refuses, Headed, Sane, Stops, Stepped}
 use Rattle.dimacs.proofs.Bytes as bytes
 use Rattle.dimacs.proofs.Bytes.{feed_is, mark_no_feed, blank_no_feed, other_no_feed, not_feed, end_feed, end_more}
 use Rattle.dimacs.proofs.Stepping.{rest, seen, next, here, seen_more, seen_one, stepped, top_on, body-on, number-some, number-on, number_stops, headed_is, unheaded}

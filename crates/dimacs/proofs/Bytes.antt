@@ -1,10 +1,10 @@
 -- What each byte does to the lines and the numbers that are left. Assumes nothing.
 use Rattle.std.proofs.Common.{◌≡◌, ℕ, suc, ◌+◌, ◌<◌, Bool, true, false, cond, eqb, List, [], ◌∷◌, ◌++◌, map, length, sym, refl, ap, ◌∙◌, subst, append_assoc, append-nil, arith, ne_eqb}
-use Rattle.dimacs.specs.declared.reader.State.TheVariants.{LineStart, Comment, Header, Gap, Number}
+use Rattle.dimacs.specs.declared.reader.State.TheVariants.{LineStart, Header, Gap, Number}
 use Rattle.dimacs.specs.declared.reader.Class.{Class}
 use Rattle.dimacs.specs.declared.reader.Class.TheVariants.{Feed, Blank, CommentMark, Other}
-use Rattle.dimacs.specs.Numbers.{is_feed, is_blank, is_comment, glue, cut, filled}
-use Rattle.dimacs.specs.Text.{Placed, placed, lines, plain, words, tokens}
+use Rattle.dimacs.specs.Numbers.{is_feed, is_blank, glue, cut, filled}
+use Rattle.dimacs.specs.Text.{placed, lines, plain, words, tokens}
 use Rattle.dimacs.specs.Machine.{class_of, rest_of, next_of, lines_from, tokens_from}
 use Rattle.dimacs.proofs.Cutting.{glue-glue, cut_at, cut_in}
 use Rattle.dimacs.proofs.Pieces.{filled-some}

@@ -1,12 +1,11 @@
 -- A text at its end. Assumes nothing.
-use Rattle.std.proofs.Common.{◌≡◌, ℕ, ◌+◌, ◌<◌, ◌≤◌, min, true, false, cond, eqb, leb, List, [], ◌∷◌, ◌++◌, map, length, drop, Some, None, Ok, Err, vec_items, Option, Result, sym, refl, ap, ◌∙◌, subst, append-nil, arith, eq-eqb, ne_eqb, le-leb}
+use Rattle.std.proofs.Common.{◌≡◌, ℕ, ◌+◌, ◌<◌, ◌≤◌, min, cond, leb, List, [], ◌∷◌, ◌++◌, map, length, drop, Some, None, Ok, Err, vec_items, Option, Result, sym, refl, ap, ◌∙◌, subst, append-nil, arith, eq-eqb, ne_eqb, le-leb}
 use borrow.Author.Tests.{lt-leb}
 use Rattle.std.proofs.lemmas.List.{drop_all}
 use Rattle.std.specs.Option.{option_map}
 use Rattle.std.specs.Result as results
 use Rattle.faults.specs.declared.ReaderFault.TheVariants.{HeaderForm, ClauseCount}
 use Rattle.faults.specs.declared.SheetFault.TheVariants.{StoreFull}
-use Rattle.faults.specs.declared.Fault.{Fault}
 use Rattle.faults.specs.declared.Fault.TheVariants.{Reader, Sheet}
 use Rattle.cnf.specs.Words.{encode}
 use Rattle.dimacs.specs.declared.clauses.Clauses.{Clauses}
@@ -15,8 +14,8 @@ use Rattle.dimacs.specs.declared.problem.Problem.{Problem}
 use Rattle.dimacs.specs.declared.reader.State.{State}
 use Rattle.dimacs.specs.declared.reader.State.TheVariants.{LineStart, Comment, Header, Gap, Number}
 use Rattle.dimacs.specs.declared.reader.Reader as reader
-use Rattle.dimacs.specs.Text.{Answer, fault, Placed, placed, headed, closed, finished, codes}
-use Rattle.dimacs.specs.Machine.{done, Kept, Numbered, Refuses, Headed, next_of, lines_from, tokens_from, ended_from, part, meaning_by, meaning, Phase, Problemed, Sane, Says, Stops}
+use Rattle.dimacs.specs.Text.{Answer, fault, placed, closed, finished}
+use Rattle.dimacs.specs.Machine.{done, Numbered, Refuses, Headed, next_of, lines_from, tokens_from, ended_from, part, meaning_by, meaning, Phase, Problemed, Sane, Says, Stops}
 use Rattle.dimacs.proofs.Bytes.{filled_whole}
 use Rattle.dimacs.proofs.Keeping.{nothing}
 use Rattle.dimacs.proofs.Written.{closed_more, closed_all}

@@ -1,8 +1,8 @@
 -- What a reading gives. Assumes nothing.
-use Rattle.std.proofs.Common.{◌≡◌, ℕ, ◌≤◌, true, cond, List, length, Ok, Err, vec_items, Result, sym, refl, ap, ◌∙◌, subst, arith, le-leb}
+use Rattle.std.proofs.Common.{◌≡◌, ℕ, ◌≤◌, true, cond, List, length, Ok, Err, vec_items, Result, sym, ap, ◌∙◌, subst, arith, le-leb}
 use Rattle.faults.specs.declared.ReaderFault.TheVariants.{TextTooLong}
 use Rattle.faults.specs.declared.Fault.TheVariants.{Reader}
-use Rattle.cnf.specs.Words.{encode, read, well}
+use Rattle.cnf.specs.Words.{well}
 use Rattle.cnf.proofs.Reading.{well-encode}
 use Rattle.dimacs.specs.declared.clauses.Clauses.{Clauses}
 use Rattle.dimacs.specs.declared.error.ReadError.{ReadError}

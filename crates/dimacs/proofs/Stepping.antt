@@ -1,5 +1,5 @@
 -- A reader that goes on by one byte. Assumes nothing.
-use Rattle.std.proofs.Common.{◌≡◌, ℕ, ◌+◌, ◌-◌, ◌<◌, ◌≤◌, Bool, true, false, cond, List, [], ◌∷◌, ◌++◌, length, get_or, take, drop, Some, None, Ok, Err, vec_items, Option, Result, sym, refl, ap, ◌∙◌, subst, append_assoc, append-nil, arith, length-append, length-drop}
+use Rattle.std.proofs.Common.{◌≡◌, ℕ, ◌+◌, ◌-◌, ◌<◌, ◌≤◌, true, false, cond, List, [], ◌∷◌, ◌++◌, length, get_or, take, drop, Some, None, Ok, Err, vec_items, Option, Result, sym, refl, ap, ◌∙◌, subst, append_assoc, append-nil, arith, length-append, length-drop}
 use Rattle.std.proofs.lemmas.List.{drop_more, take_more, get_or-drop, length-take-le}
 use Rattle.std.specs.Result as results
 use Rattle.faults.specs.declared.Fault.{Fault}
@@ -11,12 +11,12 @@ use Rattle.dimacs.specs.declared.error.ReadError.{ReadError}
 use Rattle.dimacs.specs.declared.error.ReadError.TheVariants.{Memory, Refused}
 use Rattle.dimacs.specs.declared.problem.Problem.{Problem}
 use Rattle.dimacs.specs.declared.reader.State.{State}
-use Rattle.dimacs.specs.declared.reader.State.TheVariants.{LineStart, Comment, Header, Gap, Number}
+use Rattle.dimacs.specs.declared.reader.State.TheVariants.{Number}
 use Rattle.dimacs.specs.declared.reader.Reader.{Reader}
 use Rattle.dimacs.specs.Numbers.{glue, cut, number}
-use Rattle.dimacs.specs.Text.{Answer, fault, Placed, placed, tokens, header_of, judged, opened, ahead, behind, codes, is_end, closed, finished, ended, body, limited, headed}
-use Rattle.dimacs.specs.Machine.{done, Kept, done_with, current_with, Took, NumberedBy, Numbered, Refuses, Headed, next_of, lines_from, tokens_from, ended_from, part, meaning_by, meaning, Phase, Problemed, Sane, Stops, Stepped, Moves}
-use Rattle.dimacs.proofs.Cutting.{glue-none, glue-glue, cut_at, cut_in}
+use Rattle.dimacs.specs.Text.{Answer, fault, Placed, placed, tokens, judged, opened, ahead, behind, codes, is_end, closed, finished, ended, body, headed}
+use Rattle.dimacs.specs.Machine.{done, Kept, done_with, current_with, NumberedBy, Numbered, Refuses, Headed, next_of, lines_from, tokens_from, ended_from, part, meaning_by, meaning, Phase, Problemed, Sane, Stops, Stepped, Moves}
+use Rattle.dimacs.proofs.Cutting.{glue-none, glue-glue}
 
 -- the part of a text that has been seen
 part_more : (s : List ℕ) (i p b : ℕ) → i ≤ p → p < length s → b ≡ get_or s p 0 → part s i (p + 1) ≡ part s i p ++ b ∷ []

@@ -1,18 +1,18 @@
 -- What a text says is within the limits. Assumes nothing.
-use Rattle.std.proofs.Common.{◌≡◌, ℕ, ◌+◌, ◌*◌, ◌/◌, ◌<◌, ◌≤◌, min, Bool, true, false, cond, ◌&&◌, eqb, ltb, leb, List, [], ◌∷◌, ◌++◌, length, Some, None, Ok, Err, Option, Result, sym, refl, ap, ◌∙◌, subst, arith}
+use Rattle.std.proofs.Common.{◌≡◌, ℕ, ◌+◌, ◌*◌, ◌/◌, ◌<◌, ◌≤◌, min, Bool, true, false, cond, ◌&&◌, eqb, ltb, leb, List, [], ◌∷◌, length, Some, None, Ok, Err, Option, Result, sym, refl, ap, ◌∙◌, subst, arith}
 use Rattle.std.proofs.lemmas.Bool.{and_parts, and_from, leb-true, le-leb, eqb-true, eqb-false}
 use Rattle.std.proofs.lemmas.Bool.Decides.{nat_tests}
 use Rattle.std.specs.Option.{option_map}
-use Rattle.faults.specs.declared.ReaderFault.TheVariants.{TextTooLong, HeaderForm, MalformedNumber, HeaderLimit, ClauseCount}
+use Rattle.faults.specs.declared.ReaderFault.TheVariants.{TextTooLong, HeaderLimit, ClauseCount}
 use Rattle.faults.specs.declared.SheetFault.TheVariants.{NoSuchVariable, TooManyLiterals, StoreFull}
 use Rattle.faults.specs.declared.Fault.{Fault}
 use Rattle.faults.specs.declared.Fault.TheVariants.{Reader, Sheet}
 use Rattle.faults.specs.declared.Located.{Located}
-use Rattle.cnf.specs.Truth.{named, inside}
+use Rattle.cnf.specs.Truth.{inside}
 use Rattle.cnf.specs.Words.{encode, good, goods}
 use Rattle.dimacs.specs.declared.problem.Problem.{Problem}
 use Rattle.dimacs.specs.Numbers.{glue, cut, numeral, positive, negative, number}
-use Rattle.dimacs.specs.Text.{Contents, Answer, fault, Placed, lines, plain, tokens, header_of, judged, opened, ahead, behind, codes, is_end, closed, finished, ended, body, limited, headed, text_says, Limits, SaidWithin}
+use Rattle.dimacs.specs.Text.{Contents, fault, Placed, lines, plain, tokens, header_of, judged, opened, ahead, behind, codes, is_end, closed, finished, ended, body, limited, headed, Limits, SaidWithin}
 use Rattle.dimacs.proofs.Cutting.{cut_at, cut_in}
 use Rattle.dimacs.proofs.Written.{closed_more}
 

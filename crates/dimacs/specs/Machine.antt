@@ -1,5 +1,5 @@
 -- What a text says from where a reader stands in it. Assumes nothing.
-use Rattle.std.specs.Prelude.{◌≡◌, ℕ, ◌+◌, ◌-◌, ◌<◌, ◌≤◌, Bool, true, false, cond, List, [], ◌∷◌, ◌++◌, map, length, take, drop, Some, None, Ok, Err, vec_items, Option, Result, ◌==◌}
+use Rattle.std.specs.Prelude.{◌≡◌, ℕ, ◌+◌, ◌-◌, ◌<◌, ◌≤◌, cond, List, [], ◌∷◌, ◌++◌, map, length, take, drop, Some, None, Ok, Err, vec_items, Option, Result, ◌==◌}
 use Rattle.faults.specs.declared.Located.{Located}
 use Rattle.cnf.specs.Words.{encode, read}
 use Rattle.faults.specs.declared.Fault.{Fault}
@@ -13,7 +13,7 @@ use Rattle.dimacs.specs.declared.reader.Class.{Class}
 use Rattle.dimacs.specs.declared.reader.Class.TheVariants.{Feed, Blank, CommentMark, Other}
 use Rattle.dimacs.specs.declared.reader.Reader.{Reader}
 use Rattle.dimacs.specs.Numbers.{is_feed, is_blank, glue, cut, filled, number}
-use Rattle.dimacs.specs.Text.{Answer, fault, Placed, placed, lines, plain, words, tokens, header_of, judged, codes, is_end, closed, finished, limited, headed}
+use Rattle.dimacs.specs.Text.{Answer, Placed, placed, lines, plain, words, tokens, header_of, judged, codes, is_end, closed, finished, limited, headed}
 
 -- the closed clauses
 abbrev pub done : Clauses → List (List ℕ)

@@ -15,8 +15,8 @@ fn implies<S: Solver>(
     c: u16,
     d: u16,
 ) -> Result<bool, SolverFault>
-    ensures implied { Implied most m list.now c d result }
-    ensures tallied { tally solver.new ≤ tally solver.old + 1 }
+    ensures implied { Implied S.most m list.now c d result }
+    ensures tallied { S.tally solver.new ≤ S.tally solver.old + 1 }
 {
     let found = solver.search(m, list, &[c, opposite(d)])?;
     Ok(!found)
@@ -30,8 +30,8 @@ pub fn equal_over<S: Solver>(
     c: u16,
     d: u16,
 ) -> Result<bool, SolverFault>
-    ensures compared { Compared most m list.now c d result }
-    ensures tallied { tally solver.new ≤ tally solver.old + 2 }
+    ensures compared { Compared S.most m list.now c d result }
+    ensures tallied { S.tally solver.new ≤ S.tally solver.old + 2 }
 {
     if !implies(solver, m, list, c, d)? {
         return Ok(false);

@@ -1,4 +1,4 @@
-use Rattle.std.proofs.Common.{◌≡◌, arith}
+use Rattle.std.proofs.Common.{arith}
 use Rattle.std.proofs.lemmas.Result.{err_from_is_err_and}
 use Rattle.dimacs.specs.Machine.{meaning}
 use Rattle.dimacs.specs.Results.{ReadAs}
@@ -24,13 +24,12 @@ returns-in_err-problem c =
 pub invariant_of-result : goal.invariant_of-result
 invariant_of-result c =
     let said = c.in_ok-problem.ensures in
-    let lim = within c.args.space c.args.text.now (omega arith) (meaning c.loop-b.reader) c.loop-b.invariant.3 c.in_ok-problem.problem c.in_ok-problem.clauses said in (
-      lim.nets,
-      (
-        well_formed c.args.space c.args.text.now (omega arith) (meaning c.loop-b.reader) c.loop-b.invariant.3 c.in_ok-problem.problem c.in_ok-problem.clauses said,
-        (said.kept.counted, tt),
-      ),
-    )
+    let lim = within c.args.space c.args.text.now (omega arith) (meaning c.loop-b.reader) c.loop-b.invariant.3 c.in_ok-problem.problem c.in_ok-problem.clauses said in
+    record {
+      few = lim.nets;
+      form = well_formed c.args.space c.args.text.now (omega arith) (meaning c.loop-b.reader) c.loop-b.invariant.3 c.in_ok-problem.problem c.in_ok-problem.clauses said;
+      counted = said.kept.counted;
+    }
 
 pub returns : goal.returns
 returns c =

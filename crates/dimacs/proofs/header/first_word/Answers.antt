@@ -1,6 +1,6 @@
-use Rattle.std.proofs.Common.{◌≡◌, ℕ, ◌<◌, ◌≤◌, true, false, List, [], ◌∷◌, length, take, drop, sym, refl, ap, ◌∙◌, arith, length-drop}
+use Rattle.std.proofs.Common.{◌≡◌, ℕ, ◌<◌, true, List, ◌∷◌, length, take, drop, sym, ap, ◌∙◌, arith, length-drop}
 use Rattle.std.proofs.lemmas.List.{length-take-le}
-use Rattle.dimacs.specs.Numbers.{is_space, glue, cut, filled}
+use Rattle.dimacs.specs.Numbers.{is_space, cut, filled}
 use Rattle.dimacs.specs.Text.{starts_blank}
 use Rattle.dimacs.proofs.Cutting.{word_alone, no_word}
 use Rattle.dimacs.proofs.header.first_word.Goals as goal

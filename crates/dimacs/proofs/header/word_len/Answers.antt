@@ -1,4 +1,4 @@
-use Rattle.std.proofs.Common.{◌≡◌, sym, ap, ◌∙◌, arith, eq-eqb, ne_eqb}
+use Rattle.std.proofs.Common.{◌∙◌, arith, eq-eqb, ne_eqb}
 use Rattle.dimacs.specs.Numbers.{is_space}
 use Rattle.dimacs.proofs.Cutting.{glue-none, cut_more, blank_at}
 use Rattle.dimacs.proofs.header.word_len.Goals as goal

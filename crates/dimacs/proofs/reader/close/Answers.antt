@@ -1,6 +1,5 @@
-use Rattle.std.proofs.Common.{◌≡◌, ℕ, ◌<◌, ◌≤◌, min, length, vec_items, vec_len, sym, refl, ap, ◌∙◌, subst, arith, rules, eqb-true}
+use Rattle.std.proofs.Common.{length, vec_items, sym, ap, ◌∙◌, subst, arith, eqb-true}
 use borrow.Author.Tests.{eqb-false}
-use Rattle.cnf.specs.Words.{encode}
 use Rattle.dimacs.specs.Text.{fault}
 use Rattle.dimacs.specs.Machine.{done, Stops}
 use Rattle.dimacs.proofs.Ending.{end_open, end_count, end_full, end_fits}

@@ -1,4 +1,4 @@
-use Rattle.std.proofs.Common.{◌≡◌, ℕ, suc, ◌+◌, List, [], length, vec_items, vec_len, sym, refl, ap, ◌∙◌, arith}
+use Rattle.std.proofs.Common.{◌≡◌, ℕ, suc, ◌+◌, List, [], length, vec_items, sym, refl, ap, ◌∙◌, arith}
 use Rattle.cnf.specs.Words.{encode, read}
 use Rattle.cnf.proofs.Reading.{read-nil}
 use Rattle.dimacs.specs.Text.{headed, lines, plain}

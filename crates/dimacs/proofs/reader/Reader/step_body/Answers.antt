@@ -58,24 +58,24 @@ returns-in-Number-default c =
     let nor : c.class_of.result ≡ Blank → ⊥ = search rules in
     number_goes c.args.self.now c.args.byte c.requires.sane c.requires.more c.requires.byte c.args.problem c.requires.some c.in-Number-default.is-0 (λ e. no (c.class_of.ensures ∙ e)) (λ e. nor (c.class_of.ensures ∙ e))
 
-pub returns-in_ok-take_number : goal.returns-in_ok-take_number
-returns-in_ok-take_number c =
+pub returns-in_ok-take_number-in-Number-Blank : goal.returns-in_ok-take_number-in-Number-Blank
+returns-in_ok-take_number-in-Number-Blank c =
     moved c.args.self.now _ _ _ _ c.enter-in-Number-Blank.ensures
-    (number-gap c.args.self.now c.args.byte c.requires.sane c.requires.more c.requires.byte c.args.problem c.requires.some _ c.in-Number-Blank.is-0 (sym c.in-Number-Blank.ensures) c.in_ok-take_number.ensures)
+    (number-gap c.args.self.now c.args.byte c.requires.sane c.requires.more c.requires.byte c.args.problem c.requires.some _ c.in-Number-Blank.is-0 (sym c.in-Number-Blank.ensures) c.in_ok-take_number-in-Number-Blank.ensures)
 
-pub returns-in_ok-take_number-2 : goal.returns-in_ok-take_number-2
-returns-in_ok-take_number-2 c =
+pub returns-in_ok-take_number-in-Number-Feed : goal.returns-in_ok-take_number-in-Number-Feed
+returns-in_ok-take_number-in-Number-Feed c =
     moved c.args.self.now _ _ _ _ c.next_line-in-Number-Feed.ensures
-    (number-line c.args.self.now c.args.byte c.requires.sane c.requires.more c.requires.byte c.args.problem c.requires.some _ c.in-Number-Feed.is-0 (sym c.in-Number-Feed.ensures) c.in_ok-take_number-2.ensures)
+    (number-line c.args.self.now c.args.byte c.requires.sane c.requires.more c.requires.byte c.args.problem c.requires.some _ c.in-Number-Feed.is-0 (sym c.in-Number-Feed.ensures) c.in_ok-take_number-in-Number-Feed.ensures)
 
-pub returns-in_err-take_number : goal.returns-in_err-take_number
-returns-in_err-take_number c =
+pub returns-in_err-take_number-in-Number-Blank : goal.returns-in_err-take_number-in-Number-Blank
+returns-in_err-take_number-in-Number-Blank c =
     let p = err_from_is_err_and c.from_residual.result c.from_residual.ensures.1 in
-    at_err c.from_residual.result _ (meaning c.args.self.now) p.0 c.in_err-take_number.field-0.0 p.1 p.2
-    (number-gap_stops c.args.self.now c.args.byte c.requires.sane c.requires.more c.requires.byte c.args.problem c.requires.some c.in_err-take_number.field-0.0 c.in-Number-Blank.is-0 (sym c.in-Number-Blank.ensures) c.in_err-take_number.ensures)
+    at_err c.from_residual.result _ (meaning c.args.self.now) p.0 c.in_err-take_number-in-Number-Blank.field-0.0 p.1 p.2
+    (number-gap_stops c.args.self.now c.args.byte c.requires.sane c.requires.more c.requires.byte c.args.problem c.requires.some c.in_err-take_number-in-Number-Blank.field-0.0 c.in-Number-Blank.is-0 (sym c.in-Number-Blank.ensures) c.in_err-take_number-in-Number-Blank.ensures)
 
-pub returns-in_err-take_number-2 : goal.returns-in_err-take_number-2
-returns-in_err-take_number-2 c =
-    let p = err_from_is_err_and c.from_residual-in_err-take_number-2.result c.from_residual-in_err-take_number-2.ensures.1 in
-    at_err c.from_residual-in_err-take_number-2.result _ (meaning c.args.self.now) p.0 c.in_err-take_number-2.field-0.0 p.1 p.2
-    (number-line_stops c.args.self.now c.args.byte c.requires.sane c.requires.more c.requires.byte c.args.problem c.requires.some c.in_err-take_number-2.field-0.0 c.in-Number-Feed.is-0 (sym c.in-Number-Feed.ensures) c.in_err-take_number-2.ensures)
+pub returns-in_err-take_number-in-Number-Feed : goal.returns-in_err-take_number-in-Number-Feed
+returns-in_err-take_number-in-Number-Feed c =
+    let p = err_from_is_err_and c.from_residual-in_err-take_number-in-Number-Feed.result c.from_residual-in_err-take_number-in-Number-Feed.ensures.1 in
+    at_err c.from_residual-in_err-take_number-in-Number-Feed.result _ (meaning c.args.self.now) p.0 c.in_err-take_number-in-Number-Feed.field-0.0 p.1 p.2
+    (number-line_stops c.args.self.now c.args.byte c.requires.sane c.requires.more c.requires.byte c.args.problem c.requires.some c.in_err-take_number-in-Number-Feed.field-0.0 c.in-Number-Feed.is-0 (sym c.in-Number-Feed.ensures) c.in_err-take_number-in-Number-Feed.ensures)

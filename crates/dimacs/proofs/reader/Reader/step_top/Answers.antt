@@ -33,18 +33,18 @@ returns-in-Header-default c =
     let no : c.class_of.result ≡ Feed → ⊥ = search rules in
     header_on c.args.self.now c.args.byte c.requires.sane c.requires.more c.requires.byte c.requires.none c.in-Header-default.is-0 (λ e. no (c.class_of.ensures ∙ e))
 
-pub returns-in_ok-problem : goal.returns-in_ok-problem
-returns-in_ok-problem c =
+pub returns-in_ok-problem-in-Header-Feed : goal.returns-in_ok-problem-in-Header-Feed
+returns-in_ok-problem-in-Header-Feed c =
     moved c.args.self.now _ _ _ _ c.next_line-in-Header-Feed.ensures
-    (header_ends c.args.self.now c.args.byte c.requires.sane c.requires.more c.requires.byte c.requires.none c.in_ok-problem.problem c.in-Header-Feed.is-0 (sym c.in-Header-Feed.ensures) c.in_ok-problem.ensures)
+    (header_ends c.args.self.now c.args.byte c.requires.sane c.requires.more c.requires.byte c.requires.none c.in_ok-problem-in-Header-Feed.problem c.in-Header-Feed.is-0 (sym c.in-Header-Feed.ensures) c.in_ok-problem-in-Header-Feed.ensures)
 
 pub returns-in-LineStart-Feed : goal.returns-in-LineStart-Feed
 returns-in-LineStart-Feed c =
     subst (Stops (meaning c.args.self.now)) (sym c.refused.ensures)
     (top_empty c.args.self.now c.args.byte c.requires.sane c.requires.more c.requires.byte c.requires.none c.in-LineStart-Feed.is-0 (sym c.in-LineStart-Feed.ensures))
 
-pub returns-in_err-problem : goal.returns-in_err-problem
-returns-in_err-problem c =
+pub returns-in_err-problem-in-Header-Feed : goal.returns-in_err-problem-in-Header-Feed
+returns-in_err-problem-in-Header-Feed c =
     let p = err_from_is_err_and c.from_residual.result c.from_residual.ensures.1 in
-    at_err c.from_residual.result _ (meaning c.args.self.now) p.0 c.in_err-problem.field-0.0 p.1 p.2
-    (header_stops c.args.self.now c.args.byte c.requires.sane c.requires.more c.requires.byte c.requires.none c.in_err-problem.field-0.0 c.in-Header-Feed.is-0 (sym c.in-Header-Feed.ensures) c.in_err-problem.ensures)
+    at_err c.from_residual.result _ (meaning c.args.self.now) p.0 c.in_err-problem-in-Header-Feed.field-0.0 p.1 p.2
+    (header_stops c.args.self.now c.args.byte c.requires.sane c.requires.more c.requires.byte c.requires.none c.in_err-problem-in-Header-Feed.field-0.0 c.in-Header-Feed.is-0 (sym c.in-Header-Feed.ensures) c.in_err-problem-in-Header-Feed.ensures)

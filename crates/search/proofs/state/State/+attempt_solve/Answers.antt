@@ -11,8 +11,8 @@ use Rattle.search.proofs.state.State.+attempt_solve.Goals as goal
 formed : (ws : List ℕ) (s t : State) → Grew s t → well (length (cells_of s)) ws ≡ true → well (length (cells_of t)) ws ≡ true
 formed ws s t g h = ap (λ k. well k ws) g.size ∙ h
 
-pub attempt_solve-requires : goal.attempt_solve-requires
-attempt_solve-requires t c =
+pub attempt-solve-requires : goal.attempt-solve-requires
+attempt-solve-requires t c =
     let n = c.assign.ensures in
     (omega (arith, c.decreases, n.count), (n.sound, formed c.args.list.now c.args.self.now _ n.grew c.requires.formed))
 

@@ -8,8 +8,8 @@ use Rattle.search.specs.declared.state.State.{State}
 use Rattle.search.proofs.StateFacts.{last_inside, undo_sound, undo_cells, undo_trail}
 use Rattle.search.proofs.state.State.undo.Goals as goal
 
-pub index-mut-requires : goal.index-mut-requires
-index-mut-requires c =
+pub index_mut-requires : goal.index_mut-requires
+index_mut-requires c =
     let s = c.loop-self.self in
     let t : State = record { cells = s.cells; trail = c.pop.new.self } in
     omega (arith, last_inside s t c.in-Some.place c.in-Some.ensures.items c.loop-self.invariant.4, s.cells.ok.0)

@@ -7,11 +7,10 @@ use Rattle.cnf.specs.Words.{goods}
 use Rattle.cnf.specs.Table.{turn}
 use Rattle.cnf.specs.Finite.{is_equal, lowest}
 use Rattle.cnf.proofs.Tables.{lit-opp, lit_turn}
-use Rattle.cnf.proofs.Counting.{equal_means, first_is}
+use Rattle.cnf.proofs.Counting.{equal_means}
 use Rattle.cnf.proofs.Entries.{turn_even, turn_var}
 use Rattle.classes.specs.Renumber.{occurs}
-use Rattle.classes.specs.Classes.{Satisfied}
-use Rattle.classes.specs.Lowest.{Lowers, LowestMeans}
+use Rattle.classes.specs.Lowest.{LowestMeans}
 use Rattle.classes.proofs.Renumbering.{first_hits, first_least, first_most, free, not_same}
 
 -- two codes of one variable with one value are one

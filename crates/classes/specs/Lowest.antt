@@ -1,5 +1,5 @@
 -- The lowest equal literals of a set with a model. Assumes nothing.
-use Rattle.std.specs.Prelude.{◌≡◌, ℕ, ◌+◌, ◌*◌, ◌/◌, ◌≤◌, Bool, true, false, List}
+use Rattle.std.specs.Prelude.{◌≡◌, ℕ, ◌+◌, ◌*◌, ◌/◌, ◌≤◌, true, false, List}
 use Rattle.cnf.specs.Truth.{Equal, Backbone}
 use Rattle.cnf.specs.Words.{goods}
 use Rattle.cnf.specs.Table.{turn}

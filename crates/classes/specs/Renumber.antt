@@ -1,6 +1,6 @@
 -- A clause list with its variables renumbered, and a sheet under a new table. Assumes nothing.
 use Rattle.std.specs.Prelude.{◌≡◌, ℕ, zero, suc, ◌+◌, ◌*◌, ◌/◌, ◌<◌, ◌≤◌, Bool, true, false, cond, ◌||◌, ◌↔◌, List, [], ◌∷◌, map, length, ◌==◌, slice_index}
-use Rattle.cnf.specs.Truth.{lit, clauses, Model}
+use Rattle.cnf.specs.Truth.{lit, Model}
 use Rattle.cnf.specs.Words.{goods}
 use Rattle.cnf.specs.Table.{turn, rep, by, applieds}
 use Rattle.cnf.specs.Finite.{lowest}

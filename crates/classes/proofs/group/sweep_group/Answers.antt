@@ -16,20 +16,20 @@ sweep_numbered-found-requires g c =
     let old = c.renumber-m.new.old in
     let all = c.args.scratch.now.tables in
     let p = c.args.scratch.now.size in
-    let e : length c.deref-mut.result.now - 1 ≡ n = omega (arith, c.deref-mut.ensures.len) in
+    let e : length c.deref_mut.result.now - 1 ≡ n = omega (arith, c.deref_mut.ensures.len) in
     let s : Renumbered list work rank old n m = subst (λ x. Renumbered list work rank old x m) e c.renumber-m.ensures in
     let h : well n list ≡ true = sym (c.if-not-well_formed.ensures ∙ ap (λ x. well (x - 1) list) c.len-size.ensures) in
     let t : length c.args.table.now ≡ c.args.scratch.now.rank.len = omega (arith, c.len-size.ensures) in
     let f : m ≤ n = s.tables.few in
-    let o : c.deref.result.now ≡ old = c.deref.ensures.value ∙ take_at old _ _ (c.renumber-m.auto.old ∙ c.deref-mut-2.ensures.len) in
+    let o : c.deref.result.now ≡ old = c.deref.ensures.value ∙ take_at old _ _ (c.renumber-m.auto.old ∙ c.deref_mut-2.ensures.len) in
     record {
       size = (
         record {
           old_size = c.deref.ensures.len ∙ all.0 ∙ sym t;
-          names_size = c.deref-mut-3.ensures.len ∙ all.1 ∙ sym t;
-          split_size = c.deref-mut-4.ensures.len ∙ all.2 ∙ sym t;
-          spare_size = c.deref-mut-5.ensures.len ∙ all.3 ∙ sym t;
-          bits_size = c.deref-mut-6.ensures.len ∙ all.4 ∙ sym t;
+          names_size = c.deref_mut-3.ensures.len ∙ all.1 ∙ sym t;
+          split_size = c.deref_mut-4.ensures.len ∙ all.2 ∙ sym t;
+          spare_size = c.deref_mut-5.ensures.len ∙ all.3 ∙ sym t;
+          bits_size = c.deref_mut-6.ensures.len ∙ all.4 ∙ sym t;
         },
         (omega arith, (omega arith, omega (arith, c.limit.ensures))),
       );
@@ -45,10 +45,10 @@ returns g c =
     let work = c.renumber-m.new.work in
     let rank = c.renumber-m.new.rank in
     let old = c.renumber-m.new.old in
-    let e : length c.deref-mut.result.now - 1 ≡ n = omega (arith, c.deref-mut.ensures.len) in
+    let e : length c.deref_mut.result.now - 1 ≡ n = omega (arith, c.deref_mut.ensures.len) in
     let s : Renumbered list work rank old n m = subst (λ x. Renumbered list work rank old x m) e c.renumber-m.ensures in
     let h : well n list ≡ true = sym (c.if-not-well_formed.ensures ∙ ap (λ x. well (x - 1) list) c.len-size.ensures) in
-    let o : c.deref.result.now ≡ old = c.deref.ensures.value ∙ take_at old _ _ (c.renumber-m.auto.old ∙ c.deref-mut-2.ensures.len) in
+    let o : c.deref.result.now ≡ old = c.deref.ensures.value ∙ take_at old _ _ (c.renumber-m.auto.old ∙ c.deref_mut-2.ensures.len) in
     let t = c.args.table.now in
     let u = c.sweep_numbered-found.new.table in
     let b = c.sweep_numbered-found.result in

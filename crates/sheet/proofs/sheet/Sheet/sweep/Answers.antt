@@ -19,8 +19,8 @@ pub take_over-outcome-requires : goal.take_over-outcome-requires
 take_over-outcome-requires g c =
     let s = c.args.self.now in
     let z = c.in_ok-found.ensures.answer in
-    let h = c.reset.auto.entries ∙ c.deref-mut.ensures.len in
-    let own = plain_entries s c.reset.new.entries _ h c.reset.ensures c.deref-mut-2.ensures.value in
+    let h = c.reset.auto.entries ∙ c.deref_mut.ensures.len in
+    let own = plain_entries s c.reset.new.entries _ h c.reset.ensures c.deref_mut-2.ensures.value in
     subst (λ xs. Ready (state_of s) xs c.in_ok-found.found) (sym (with_items_is _ _ ?))
     (group_ready (state_of s) (sheet_kept s).sound _ _ own c.in_ok-found.found (grouped s _ _ _ _ _ ? (front s.used _ _ c.deref.ensures.value) z.1))
 

@@ -28,7 +28,7 @@ pub invariant_of-self : goal.invariant_of-self
 invariant_of-self c =
     let s = c.args.self.now in
     ghosts _ _ _ _ _ _ _ _ _ _ _
-    (landed s _ _ _ c.deref-mut.ensures.value (front _ _ _ c.deref.ensures.value) c.if-is_contradictory.ensures c.join_all.auto.marks c.join_all.ensures).holds
+    (landed s _ _ _ c.deref_mut.ensures.value (front _ _ _ c.deref.ensures.value) c.if-is_contradictory.ensures c.join_all.auto.marks c.join_all.ensures).holds
     s.table.ok.0 s.words.ok.0 (s.spaces.0, s.spaces.1, s.spaces.2, s.spaces.3, s.spaces.4)
 
 pub returns : goal.returns
@@ -36,6 +36,6 @@ returns c =
     let s = c.args.self.now in
     let b = c.if-is_contradictory.ensures in (
       sym (ap (λ x. cond x (Some Contradictory) None) b),
-      (landed s _ _ _ c.deref-mut.ensures.value (front _ _ _ c.deref.ensures.value) b c.join_all.auto.marks c.join_all.ensures).is,
+      (landed s _ _ _ c.deref_mut.ensures.value (front _ _ _ c.deref.ensures.value) b c.join_all.auto.marks c.join_all.ensures).is,
       refl,
     )

@@ -112,20 +112,20 @@ Sized lt lm ln ls lb lr = (lm ≡ lt) × (ln ≡ lt) × (ls ≡ lt) × (lb ≡ l
 
 -- the facts in the type of a sheet, in their order, from the spaces that hold it; l with a letter is a length
 abbrev pub Ghosts : List ℕ → ℕ → List ℕ → ℕ → ℕ → List Bool → ℕ → ℕ → ℕ → ℕ → ℕ → Type 0
-Ghosts table lt words lw used marks lm ln ls lb lr =
-    ((c : ℕ) → c < 2 → rep table c ≡ c)
-    × (((c : ℕ) → rep table (opp c) ≡ opp (rep table c))
-    × (((c : ℕ) → c / 2 < length table → rep table c / 2 ≤ c / 2)
-    × (((c : ℕ) → c / 2 < length table → rep table (rep table c) ≡ rep table c)
-    × ((used ≤ min lw 30000)
-    × ((well (lt - 1) (take used words) ≡ true)
-    × (((c : ℕ) → contains (read (take used words)) c ≡ true → rep table c ≡ c)
-    × ((broken (read (take used words)) ≡ true → used ≡ 1)
-    × ((broken (read (take used words)) ≡ true → (v : ℕ) → get_or marks v false ≡ false)
-    × ((get_or marks 0 false ≡ false)
-    × (((1 ≤ lt) × (lt ≤ 2001))
-    × (Sized lt lm ln ls lb lr
-    × Unit {0})))))))))))
+Ghosts table lt words lw used marks lm ln ls lb lr = record {
+  constants : (c : ℕ) → c < 2 → rep table c ≡ c;
+  opposites : (c : ℕ) → rep table (opp c) ≡ opp (rep table c);
+  lower : (c : ℕ) → c / 2 < length table → rep table c / 2 ≤ c / 2;
+  itself : (c : ℕ) → c / 2 < length table → rep table (rep table c) ≡ rep table c;
+  room : used ≤ min lw 30000;
+  formed : well (lt - 1) (take used words) ≡ true;
+  own : (c : ℕ) → contains (read (take used words)) c ≡ true → rep table c ≡ c;
+  alone : broken (read (take used words)) ≡ true → used ≡ 1;
+  quiet : broken (read (take used words)) ≡ true → (v : ℕ) → get_or marks v false ≡ false;
+  constant : get_or marks 0 false ≡ false;
+  size : (1 ≤ lt) × (lt ≤ 2001);
+  spaces : Sized lt lm ln ls lb lr;
+}
 
 own_has : (t d : List ℕ) → Own t d → (c : ℕ) → has d c ≡ true → rep t c ≡ c
 own_has t [] o c h = absurd (both_ways false refl h)
@@ -137,43 +137,20 @@ own_contains t (d ∷ cs) o c h = ⊎_elim (λ q. own_has t d o.0 c q) (λ q. ow
 
 pub ghosts : (table words : List ℕ) (used : ℕ) (marks : List Bool) (lt lw lm ln ls lb lr : ℕ) → Kept table words used marks → lt ≡ length table → lw ≡ length words
     → Sized lt lm ln ls lb lr → Ghosts table lt words lw used marks lm ln ls lb lr
-ghosts table words used marks lt lw lm ln ls lb lr w tl wl sizes = (
-  w.sound.reduced.tabled.constants,
-  (
-    w.sound.reduced.tabled.opposites,
-    (
-      w.sound.reduced.tabled.lower,
-      (
-        w.sound.reduced.tabled.itself,
-        (
-          omega (arith, w.within, ap (λ n. min n 30000) wl),
-          (
-            ap (λ n. well (n - 1) (take used words)) tl ∙ w.formed,
-            (
-              own_contains table (read (take used words)) w.sound.reduced.own,
-              (
-                (λ b. sym (used-words (length table - 1) words used (omega (arith, w.within, min-le_left (length words) 30000)) w.formed) ∙ ap (λ cs. length (encode cs)) (w.sound.alone b)),
-                (
-                  w.sound.quiet,
-                  (
-                    constant,
-                    (
-                      (omega (arith, w.sound.few, w.sound.size), omega (arith, w.sound.few, w.sound.size)),
-                      (
-                        sizes,
-                        tt,
-                      ),
-                    ),
-                  ),
-                ),
-              ),
-            ),
-          ),
-        ),
-      ),
-    ),
-  ),
-)
+ghosts table words used marks lt lw lm ln ls lb lr w tl wl sizes = record {
+  constants = w.sound.reduced.tabled.constants;
+  opposites = w.sound.reduced.tabled.opposites;
+  lower = w.sound.reduced.tabled.lower;
+  itself = w.sound.reduced.tabled.itself;
+  room = omega (arith, w.within, ap (λ n. min n 30000) wl);
+  formed = ap (λ n. well (n - 1) (take used words)) tl ∙ w.formed;
+  own = own_contains table (read (take used words)) w.sound.reduced.own;
+  alone = (λ b. sym (used-words (length table - 1) words used (omega (arith, w.within, min-le_left (length words) 30000)) w.formed) ∙ ap (λ cs. length (encode cs)) (w.sound.alone b));
+  quiet = w.sound.quiet;
+  constant = constant;
+  size = (omega (arith, w.sound.few, w.sound.size), omega (arith, w.sound.few, w.sound.size));
+  spaces = sizes;
+}
   where
     constant : get_or marks 0 false ≡ false
     constant = ⊎_elim (λ h. absurd (let k = (w.sound.nets_wait 0 h).0 in omega arith)) (λ h. h) (cases_Bool (get_or marks 0 false))

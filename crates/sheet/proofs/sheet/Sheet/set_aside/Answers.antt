@@ -17,12 +17,12 @@ invariant_of-result c =
     let made = c.in_ok-own_entries.ensures in
     let m = c.in_ok-vec.ensures in
     ghosts _ _ _ _ _ _ _ _ _ _ _
-    (landed t c.new.result c.in_ok-vec.field-0 c.args.nets c.if-nets-gt-MAX_NETS.false made.0 made.1 m.made.1 (m.exact (λ _ e. e))).holds
+    (landed t c.new.result c.in_ok-vec.field-0 c.args.nets c.if-nets-gt-MAX_NETS.false made.0 made.1 m.len (m.items_if_clones_equal (λ _ e. e))).holds
     t.ok.0 c.new.result.ok.0 (
-      m.made.1 ∙ sym made.1,
-      c.in_ok-vec-2.ensures.made.1 ∙ sym made.1,
-      c.in_ok-vec-3.ensures.made.1 ∙ sym made.1,
-      c.in_ok-vec-4.ensures.made.1 ∙ sym made.1,
+      m.len ∙ sym made.1,
+      c.in_ok-vec-2.ensures.len ∙ sym made.1,
+      c.in_ok-vec-3.ensures.len ∙ sym made.1,
+      c.in_ok-vec-4.ensures.len ∙ sym made.1,
       c.in_ok-new.ensures.1 ∙ sym made.1,
     )
 
@@ -31,7 +31,7 @@ returns c =
     let made = c.in_ok-own_entries.ensures in
     let m = c.in_ok-vec.ensures in (
       c.if-nets-gt-MAX_NETS.false,
-      (landed c.in_ok-own_entries.field-0 c.new.result c.in_ok-vec.field-0 c.args.nets c.if-nets-gt-MAX_NETS.false made.0 made.1 m.made.1 (m.exact (λ _ e. e))).is
+      (landed c.in_ok-own_entries.field-0 c.new.result c.in_ok-vec.field-0 c.args.nets c.if-nets-gt-MAX_NETS.false made.0 made.1 m.len (m.items_if_clones_equal (λ _ e. e))).is
           ∙ ap (λ xs. opened c.args.nets (min (length xs) 30000)) c.new.ensures.items,
       refl,
     )

@@ -1,11 +1,11 @@
 -- What an addition makes of a clause. Assumes nothing.
-use Rattle.std.proofs.Common.{◌≡◌, ℕ, ◌+◌, ◌-◌, ◌*◌, ◌/◌, ◌<◌, ◌≤◌, Bool, true, false, cond, leb, List, [], ◌∷◌, length, get_or, Some, None, Ok, Option, Result, sym, refl, ap, ◌∙◌, subst, arith}
-use Rattle.std.proofs.lemmas.Bool.{and_parts, and_from, le-leb, leb-true}
+use Rattle.std.proofs.Common.{◌≡◌, ℕ, ◌≤◌, true, false, cond, leb, List, [], ◌∷◌, length, Some, None, Ok, Result, sym, refl, ap, ◌∙◌, subst, arith}
+use Rattle.std.proofs.lemmas.Bool.{and_parts, and_from, le-leb}
 use Rattle.faults.specs.declared.SheetFault.{SheetFault}
 use Rattle.faults.specs.declared.SheetFault.TheVariants.{NoSuchVariable, TooManyLiterals, StoreFull, Contradictory}
 use Rattle.cnf.specs.Truth.{inside}
 use Rattle.cnf.specs.Words.{good, goods}
-use Rattle.cnf.specs.Table.{by, before, applied, applieds}
+use Rattle.cnf.specs.Table.{by, before, applied}
 use Rattle.cnf.proofs.Tables.{Within, applieds-good}
 use Rattle.cnf.proofs.Applying.{applies}
 use Rattle.cnf.proofs.Entries.{entries_from_tabled}

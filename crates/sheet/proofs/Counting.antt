@@ -1,10 +1,10 @@
 -- How many variables changed their kind. Assumes nothing.
-use Rattle.std.proofs.Common.{◌≡◌, ℕ, zero, suc, ◌+◌, ◌*◌, ◌<◌, ◌≤◌, Bool, true, false, cond, ◌&&◌, eqb, ltb, List, length, get_or, sym, refl, ap, ◌∙◌, ⊎_elim, add-one, arith}
+use Rattle.std.proofs.Common.{◌≡◌, ℕ, zero, suc, ◌+◌, ◌*◌, ◌<◌, ◌≤◌, Bool, true, false, cond, ◌&&◌, eqb, ltb, List, get_or, sym, refl, ap, ◌∙◌, ⊎_elim, add-one, arith}
 use Rattle.std.proofs.lemmas.Bool.{eq-eqb, ne_eqb, lt-ltb, le-ltb, cases_lt}
-use Rattle.cnf.specs.Table.{kind_of, kind_number}
+use Rattle.cnf.specs.Table.{kind_number}
 use Rattle.cnf.specs.declared.kind.Kind.TheVariants.{Free, Fixed, Tied}
 use Rattle.classes.specs.Renumber.{below}
-use Rattle.sheet.specs.Calls.{is_kind, newly}
+use Rattle.sheet.specs.Calls.{is_kind}
 
 -- free by t and of this kind by u
 abbrev pub turns : ℕ → List ℕ → List ℕ → ℕ → Bool

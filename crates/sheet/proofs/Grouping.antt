@@ -1,27 +1,29 @@
 -- The sweep of the store, as the sweep of a set gives it. Assumes nothing.
-use Rattle.std.proofs.Common.{◌≡◌, ℕ, ◌+◌, ◌-◌, ◌*◌, ◌<◌, ◌≤◌, min, Bool, true, false, cond, ◌&&◌, eqb, leb, List, [], ◌∷◌, length, get_or, take, replicate, Some, None, Option, sym, refl, ap, ◌∙◌, subst, arith}
+use Rattle.std.proofs.Common.{◌≡◌, ℕ, ◌+◌, ◌-◌, ◌*◌, ◌<◌, ◌≤◌, Bool, true, false, cond, eqb, leb, List, [], ◌∷◌, length, get_or, take, replicate, Some, None, Ok, Err, Option, Result, sym, refl, ap, ◌∙◌, subst, arith}
 use Rattle.std.specs.Vec.{with_items}
 use Rattle.std.proofs.lemmas.List.{length-take-le, with_items_is}
 use Rattle.std.proofs.lemmas.Bool.{and_from, eq-eqb}
 use Rattle.faults.specs.declared.SheetFault.{SheetFault}
 use Rattle.faults.specs.declared.SheetFault.TheVariants.{NoSuchVariable, Contradictory, Capacity, SpaceShort}
 use Rattle.cnf.specs.Truth.{Model}
-use Rattle.cnf.specs.Words.{encode, read, well, goods}
+use Rattle.cnf.specs.Words.{encode, read, well}
 use Rattle.cnf.specs.Table.{by}
-use Rattle.cnf.specs.Finite.{is_backbone, lowest}
+use Rattle.cnf.specs.Finite.{lowest}
 use Rattle.cnf.proofs.Reading.{read_means}
-use Rattle.classes.specs.Renumber.{occurs, occurring, Stands}
+use Rattle.classes.specs.Renumber.{occurs, occurring}
 use Rattle.classes.specs.Group.{refusal, Groups}
-use Rattle.propagation.specs.Propagate.{Rewritten, rewritten}
+use Rattle.propagation.specs.Propagate.{rewritten}
 use Rattle.sheet.specs.declared.sheet.Sheet.{Sheet}
 use Rattle.sheet.specs.State.{State, broken, Sound}
 use Rattle.sheet.specs.Of.{state_of}
-use Rattle.sheet.specs.Calls.{used, contradicted, landed, rested, swept, full_swept, news, sweep_refusal}
-use Rattle.sheet.specs.Sweep.{Ready}
+use Rattle.sheet.specs.declared.outcome.Outcome.{Outcome}
+use Rattle.sheet.specs.Calls.{used, Does, outcome, contradicted, landed, rested, swept, full_swept, news, sweep_refusal}
+use Rattle.sheet.specs.Laws.{Sweeps}
+use Rattle.sheet.specs.Sweep.{Ready, Serves}
 use Rattle.sheet.proofs.Keeping.{Lands, sheet_kept, lands, within_words, cleared}
 use Rattle.sheet.proofs.Joining.{used_is}
 use Rattle.sheet.proofs.Sweeping.{some_model, no_model, rewritten_same, news-lowest, sweep_moves, sweep_agrees}
-use Rattle.sheet.proofs.Swept.{good}
+use Rattle.sheet.proofs.Swept.{good, full_verdict}
 
 -- why the store is not swept
 pub refusal_same : (s : Sheet) (size most room : ℕ) (list entries : List ℕ) → false ≡ broken (state_of s).store → size ≡ s.table.len → list ≡ take s.used s.words.items → length entries ≡ size
@@ -86,8 +88,34 @@ grouped s size list plain entries found z p g =
     let n : size - 1 ≡ (state_of s).nets = ap (λ x. x - 1) (z ∙ s.table.ok.0) in
     subst (λ x. Groups (state_of s).nets (read x) plain entries found) p (subst (λ x. Groups x (read list) plain entries found) n g)
 
+-- how many variables occur
+pub grouped_count : (s : Sheet) (size : ℕ) (list : List ℕ) → size ≡ s.table.len → list ≡ take s.used s.words.items → occurring (size - 1) (read list) ≡ occurring (state_of s).nets (state_of s).store
+grouped_count s size list z p =
+    let n : size - 1 ≡ (state_of s).nets = ap (λ x. x - 1) (z ∙ s.table.ok.0) in
+    ap (λ x. occurring x (read list)) n ∙ ap (λ x. occurring (state_of s).nets (read x)) p
+
 -- the entries of the space for new representatives, once each stands for itself
 pub plain_entries : (s : Sheet) (ws src : List ℕ) → length ws ≡ s.news.len → ((v : ℕ) → v < length ws → get_or ws v 0 ≡ 2 * v) → src ≡ (with_items s.news ws).items
     → (v : ℕ) → v ≤ (state_of s).nets → get_or src v 0 ≡ 2 * v
 plain_entries s ws src l h e v k =
     ap (λ xs. get_or xs v 0) (e ∙ with_items_is s.news ws l) ∙ h v (omega (arith, s.spaces.2, s.table.ok.0, s.size))
+
+-- what a sweep promises of the sheet s, which becomes u, and of the solver
+pub record Answers {S : Type 0} (tally : S → ℕ) (before after : S) (s u : State) (refusal : Option SheetFault) (r : Result Outcome SheetFault) : Type 0 where
+  pub does : Does refusal s (full_swept s) (outcome s (full_swept s)) u r
+  pub law : Sweeps s u r
+  pub served : Serves tally s before after r
+
+pub refused : {S : Type 0} (tally : S → ℕ) (before after : S) (s : State) (refusal : Option SheetFault) (r : Result Outcome SheetFault) (e : SheetFault)
+    → r ≡ Err e → refusal ≡ Some e → after ≡ before → Answers tally before after s s refusal r
+refused tally before after s refusal r e q h k =
+    subst (λ x. Answers tally before after s s refusal x) (sym q) (record { does = (h, refl); law = λ accepted f. f; served = k })
+
+pub answered : {S : Type 0} (tally : S → ℕ) (before after : S) (s u : State) (w : Sound s) (refusal : Option SheetFault) (o : Outcome)
+    → refusal ≡ None → u ≡ full_swept s → o ≡ outcome s (full_swept s) → tally after ≤ tally before + 2 * occurring s.nets s.store + 1
+    → Answers tally before after s u refusal (Ok o)
+answered tally before after s u w refusal o h e q t = record {
+  does = (h, e, q);
+  law = subst (λ x. Sweeps s x (Ok o)) (sym e) (subst (λ x. Sweeps s (full_swept s) (Ok x)) (sym q) (full_verdict s w));
+  served = t;
+}

@@ -1,15 +1,14 @@
 -- A clause that joins a sheet. Assumes nothing.
-use Rattle.std.proofs.Common.{◌≡◌, ℕ, ◌+◌, ◌-◌, ◌<◌, ◌≤◌, min, Bool, true, false, cond, ◌||◌, eqb, leb, List, [], ◌∷◌, ◌++◌, length, get_or, take, Some, None, sym, refl, ap, ◌∙◌, subst, arith}
+use Rattle.std.proofs.Common.{◌≡◌, ℕ, ◌+◌, ◌<◌, ◌≤◌, min, Bool, false, cond, ◌||◌, eqb, List, [], ◌∷◌, ◌++◌, length, get_or, take, Some, None, sym, refl, ap, ◌∙◌, subst, arith}
 use native.Mathlib.Nat.{min-le_left}
 use Rattle.std.specs.Vec.{with_items}
 use Rattle.std.proofs.lemmas.List.{with_items_is}
 use Rattle.std.proofs.lemmas.Bool.{lt-leb, le-leb, eqb-false}
 use Rattle.faults.specs.declared.SheetFault.TheVariants.{StoreFull}
-use Rattle.cnf.specs.Words.{encode}
 use Rattle.cnf.proofs.Reading.{read_means}
 use Rattle.classes.specs.Renumber.{mentions}
 use Rattle.sheet.specs.declared.sheet.Sheet.{Sheet}
-use Rattle.sheet.specs.State.{State, broken}
+use Rattle.sheet.specs.State.{State}
 use Rattle.sheet.specs.Of.{state_of}
 use Rattle.sheet.specs.Calls.{used, joined, Storable, storing_refusal}
 use Rattle.sheet.proofs.Keeping.{Lands, sheet_kept, lands, used-words, within_words}

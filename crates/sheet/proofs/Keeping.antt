@@ -1,16 +1,16 @@
 -- What holds of every sheet, and the spaces that hold one. Assumes nothing.
-use Rattle.std.proofs.Common.{◌≡◌, ℕ, zero, suc, ◌+◌, ◌-◌, ◌*◌, ◌/◌, ◌<◌, ◌≤◌, min, Bool, true, false, ◌||◌, eqb, leb, List, [], ◌∷◌, ◌++◌, length, get_or, take, drop, replicate, vec_items, vec_len, Vec, sym, refl, ap, ◌∙◌, subst, ⊎_elim, arith}
+use Rattle.std.proofs.Common.{◌≡◌, ℕ, ◌-◌, ◌/◌, ◌<◌, ◌≤◌, min, Bool, true, false, eqb, List, [], ◌∷◌, length, get_or, take, replicate, vec_items, Vec, sym, refl, ap, ◌∙◌, subst, ⊎_elim, arith}
 use mathlib.Core.Path.{fun_ext}
 use native.Mathlib.Nat.{min-le_left}
 use Rattle.std.specs.Vec.{with_items}
 use Rattle.std.specs.declared.alloc.Global.{Global}
 use Rattle.std.proofs.lemmas.List.{get_or_past, get_or-replicate, length-replicate, length-take-le, take_more, with_items_is}
 use Rattle.std.proofs.lemmas.Bool.{both_ways, cases_eq, cases_lt, cases_Bool, eq-eqb, ne_eqb, eqb-true, or_left, or_right, or_cases}
-use Rattle.cnf.specs.Truth.{opp, inside}
+use Rattle.cnf.specs.Truth.{opp}
 use Rattle.cnf.specs.Words.{read, encode, well, goods}
 use Rattle.cnf.specs.Table.{rep, has, Own, Tabled}
 use Rattle.cnf.proofs.Reading.{read_means, read-encode, well-encode, read-cons, read-nil, well-cons}
-use Rattle.propagation.specs.Follow.{Reduced, OwnEach}
+use Rattle.propagation.specs.Follow.{OwnEach}
 use Rattle.sheet.specs.Calls.{contradicted}
 use Rattle.sheet.proofs.Sounding.{sound_contradicted}
 use Rattle.sheet.specs.declared.sheet.Sheet.{Sheet}

@@ -1,6 +1,5 @@
 -- A sheet whose representatives were replaced. Assumes nothing.
-use Rattle.std.proofs.Common.{◌≡◌, ℕ, ◌+◌, ◌-◌, ◌<◌, ◌≤◌, min, Bool, true, false, cond, List, [], ◌∷◌, ◌++◌, length, get_or, take, drop, Some, None, Option, Vec, sym, refl, ap, ◌∙◌, subst, arith}
-use native.Mathlib.Nat.{min-le_left}
+use Rattle.std.proofs.Common.{◌≡◌, ℕ, ◌-◌, ◌≤◌, min, Bool, true, false, cond, List, length, get_or, take, drop, Some, None, Option, Vec, sym, refl, ap, ◌∙◌, subst, arith}
 use borrow.Rule.Slice.PartMut.{put_mid}
 use Rattle.std.specs.Vec.{with_items}
 use Rattle.std.specs.declared.alloc.Global.{Global}
@@ -11,12 +10,11 @@ use Rattle.cnf.specs.Table.{by}
 use Rattle.propagation.specs.Propagate.{Rewritten, rewritten, Leaves}
 use Rattle.propagation.specs.Laws.{Lasts, Outcome}
 use Rattle.propagation.proofs.Keeping.{rewriting_keeps}
-use Rattle.sheet.specs.declared.outcome.Outcome.{Outcome as Answer}
 use Rattle.sheet.specs.declared.outcome.Outcome.TheVariants.{Contradiction, Settled}
 use Rattle.sheet.specs.declared.sheet.Sheet.{Sheet}
-use Rattle.sheet.specs.State.{State, broken, Sound}
+use Rattle.sheet.specs.State.{State, Sound}
 use Rattle.sheet.specs.Of.{state_of}
-use Rattle.sheet.specs.Calls.{contradicted, landed, newly, outcome}
+use Rattle.sheet.specs.Calls.{landed, newly, outcome}
 use Rattle.sheet.specs.Sweep.{Ready}
 use Rattle.sheet.proofs.Keeping.{Lands, sheet_kept, lands, lands_contradicted, within_words}
 use Rattle.sheet.proofs.Joining.{used_is}

@@ -1,12 +1,10 @@
 -- A sheet that was just opened. Assumes nothing.
-use Rattle.std.proofs.Common.{◌≡◌, ℕ, ◌+◌, ◌-◌, ◌*◌, ◌<◌, ◌≤◌, min, Bool, true, false, List, [], length, get_or, sym, refl, ap, ◌∙◌, subst, arith}
+use Rattle.std.proofs.Common.{◌≡◌, ℕ, ◌+◌, ◌*◌, ◌≤◌, min, Bool, false, List, [], length, get_or, sym, refl, ap, ◌∙◌, arith}
 use Rattle.std.proofs.lemmas.Bool.{both_ways}
-use Rattle.cnf.specs.Truth.{lit, Model}
-use Rattle.cnf.specs.Table.{Tabled, fresh}
+use Rattle.cnf.specs.Truth.{lit}
+use Rattle.cnf.specs.Table.{fresh}
 use Rattle.cnf.proofs.Entries.{fresh_tabled, fresh-length, fresh_entry}
-use Rattle.classes.specs.Renumber.{Stands}
 use Rattle.classes.proofs.Renumbering.{lit_even}
-use Rattle.sheet.specs.State.{State, broken, Sound}
 use Rattle.sheet.specs.Calls.{opened}
 use Rattle.sheet.specs.Laws.{Fits}
 use Rattle.sheet.proofs.Keeping.{Lands, lands}

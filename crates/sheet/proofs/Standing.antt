@@ -1,16 +1,15 @@
 -- The assignments that a sheet stands for, as clauses join it. Assumes nothing.
-use Rattle.std.proofs.Common.{◌≡◌, ℕ, ◌+◌, ◌-◌, ◌*◌, ◌/◌, ◌<◌, ◌≤◌, Bool, true, false, cond, ◌&&◌, leb, List, [], ◌∷◌, ◌++◌, length, get_or, Some, None, Ok, Err, Option, Result, sym, refl, ap, ◌∙◌, subst, ⊎_elim, arith}
+use Rattle.std.proofs.Common.{◌≡◌, ℕ, ◌+◌, ◌*◌, ◌/◌, ◌<◌, Bool, true, false, ◌&&◌, leb, List, [], ◌∷◌, ◌++◌, length, get_or, Some, None, Ok, Err, Option, Result, sym, refl, ◌∙◌, subst, ⊎_elim, arith}
 use Rattle.std.proofs.lemmas.Bool.{both_ways, and_parts, and_from, cases_Bool, leb-true}
 use Rattle.std.proofs.lemmas.Bool.Decides.{nat_tests}
 use Rattle.faults.specs.declared.SheetFault.{SheetFault}
-use Rattle.faults.specs.declared.SheetFault.TheVariants.{NoSuchVariable, TooManyLiterals, StoreFull, Contradictory}
 use Rattle.cnf.specs.Truth.{lit, clause, clauses, named, inside, Model}
 use Rattle.cnf.specs.Table.{by, rep, applied, clause_or_true, Follows}
 use Rattle.cnf.proofs.Tables.{lit_turn}
 use Rattle.cnf.proofs.Applying.{applies}
 use Rattle.classes.specs.Renumber.{Stands}
-use Rattle.sheet.specs.State.{State, broken, Sound}
-use Rattle.sheet.specs.Calls.{Does, joined, added, addition_refusal, used}
+use Rattle.sheet.specs.State.{State, Sound}
+use Rattle.sheet.specs.Calls.{Does, joined, added, addition_refusal}
 use Rattle.sheet.specs.Laws.{Fits, Adds}
 
 clauses_push : (a : ℕ → Bool) (cs : List (List ℕ)) (c : List ℕ) → clauses a (cs ++ c ∷ []) ≡ (clauses a cs && clause a c)

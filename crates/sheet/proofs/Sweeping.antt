@@ -1,26 +1,24 @@
 -- What a sweep of stored clauses does to a sheet. Assumes nothing.
-use Rattle.std.proofs.Common.{◌≡◌, ℕ, ◌+◌, ◌-◌, ◌*◌, ◌/◌, ◌%◌, ◌<◌, ◌≤◌, Bool, true, false, cond, not, ◌||◌, eqb, List, [], ◌∷◌, map, length, get_or, Some, None, Option, sym, refl, ap, ◌∙◌, subst, ⊎_elim, arith}
+use Rattle.std.proofs.Common.{◌≡◌, ℕ, ◌*◌, ◌/◌, ◌<◌, ◌≤◌, Bool, true, false, cond, eqb, List, [], ◌∷◌, length, get_or, sym, refl, ap, ◌∙◌, subst, ⊎_elim, arith}
 use Rattle.std.proofs.lemmas.List.{ext_get_or, get_or-map, length-map}
-use Rattle.std.proofs.lemmas.Bool.{both_ways, cases_Bool, cases_lt, or_cases, or_left, or_right, eqb-true}
+use Rattle.std.proofs.lemmas.Bool.{both_ways, cases_Bool, cases_lt, or_cases, eqb-true}
 use Rattle.std.proofs.lemmas.Bool.Decides.{nat_tests}
-use Rattle.cnf.specs.Truth.{lit, clauses, Model, Equal, Backbone}
-use Rattle.cnf.specs.Words.{encode, goods}
-use Rattle.cnf.specs.Table.{turn, rep, by, via, applieds, Own, Tabled}
+use Rattle.cnf.specs.Truth.{lit, Model, Equal}
+use Rattle.cnf.specs.Words.{goods}
+use Rattle.cnf.specs.Table.{turn, rep, by, applieds, Own, Tabled}
 use Rattle.cnf.specs.Finite.{is_backbone, lowest}
-use Rattle.cnf.proofs.Tables.{lit_turn}
 use Rattle.cnf.proofs.Counting.{backbone_means}
-use Rattle.cnf.proofs.Entries.{entries_from_tabled, rep_even, turn_var}
+use Rattle.cnf.proofs.Entries.{entries_from_tabled}
 use Rattle.classes.specs.Renumber.{mentions, occurs, Stands}
 use Rattle.classes.specs.Classes.{Satisfied}
 use Rattle.classes.specs.Lowest.{Lowers}
 use Rattle.classes.proofs.Lowest.{lowest_means}
 use Rattle.classes.proofs.Refining.{self_even}
-use Rattle.classes.proofs.Renumbering.{lit_even, lit_at, clauses-on}
-use Rattle.propagation.specs.Follow.{followed, Reduced, OwnEach, Moves}
-use Rattle.propagation.specs.Propagate.{Rewritten, rewritten, propagated}
-use Rattle.propagation.specs.Laws.{Lasts, Outcome}
-use Rattle.propagation.proofs.Keeping.{rewriting_keeps, rewriting_follows, followed-rep}
-use Rattle.sheet.specs.State.{State, broken, Sound}
+use Rattle.classes.proofs.Renumbering.{lit_even}
+use Rattle.propagation.specs.Follow.{followed, OwnEach, Moves}
+use Rattle.propagation.specs.Propagate.{rewritten, propagated}
+use Rattle.propagation.proofs.Keeping.{followed-rep}
+use Rattle.sheet.specs.State.{State, Sound}
 use Rattle.sheet.specs.Calls.{news}
 
 -- a variable of clauses that are written in representatives is its own

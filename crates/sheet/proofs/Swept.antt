@@ -1,28 +1,25 @@
 -- What a full sweep keeps and finds. Assumes nothing.
-use Rattle.std.proofs.Common.{◌≡◌, ℕ, ◌+◌, ◌-◌, ◌*◌, ◌/◌, ◌%◌, ◌<◌, ◌≤◌, Bool, true, false, cond, not, ◌&&◌, eqb, List, [], ◌∷◌, length, get_or, Some, None, Ok, Err, filter, Option, Result, sym, refl, ap, ◌∙◌, subst, ⊎_elim, arith}
+use Rattle.std.proofs.Common.{◌≡◌, ℕ, ◌-◌, ◌*◌, ◌/◌, ◌≤◌, Bool, true, false, cond, List, [], ◌∷◌, length, get_or, Some, None, Ok, filter, Option, sym, refl, ap, ◌∙◌, subst, arith}
 use Rattle.std.proofs.lemmas.Bool.{both_ways, true≢false}
-use Rattle.std.proofs.lemmas.Bool.Decides.{nat_tests}
-use Rattle.faults.specs.declared.SheetFault.{SheetFault}
-use Rattle.cnf.specs.Truth.{told, lit, clauses, Model, Equal}
+use Rattle.cnf.specs.Truth.{told, lit, clauses, Model}
 use Rattle.cnf.specs.Words.{encode, goods}
-use Rattle.cnf.specs.Table.{turn, rep, by, via, Tabled}
+use Rattle.cnf.specs.Table.{rep, by, via}
 use Rattle.cnf.specs.Finite.{is_backbone, lowest, rows, passes}
 use Rattle.cnf.proofs.Tables.{lit_turn}
 use Rattle.cnf.proofs.Counting.{backbone_means}
-use Rattle.cnf.proofs.Entries.{entries_from_tabled, turn_var}
-use Rattle.classes.specs.Renumber.{occurs, Stands}
+use Rattle.cnf.proofs.Entries.{entries_from_tabled}
+use Rattle.classes.specs.Renumber.{Stands}
 use Rattle.classes.specs.Classes.{Satisfied}
 use Rattle.classes.proofs.Refining.{self_even}
 use Rattle.classes.proofs.Renumbering.{lit_even, lit_at, clauses-on}
-use Rattle.propagation.specs.declared.unit.Pending.TheVariants.{Nothing, Conflict, Forces}
-use Rattle.propagation.specs.Follow.{followed, Reduced}
+use Rattle.propagation.specs.declared.unit.Pending.TheVariants.{Nothing}
 use Rattle.propagation.specs.Propagate.{Rewritten, pending, propagated_for, rewritten}
 use Rattle.propagation.specs.Laws.{Lasts, Outcome}
 use Rattle.propagation.proofs.Keeping.{rewriting_keeps, rewriting_follows}
 use Rattle.sheet.specs.declared.outcome.Outcome.{Outcome as Answer}
 use Rattle.sheet.specs.declared.outcome.Outcome.TheVariants.{Contradiction, Settled}
 use Rattle.sheet.specs.State.{State, broken, Sound}
-use Rattle.sheet.specs.Calls.{Does, contradicted, landed, rested, swept, full_swept, news, newly, outcome, sweep_refusal}
+use Rattle.sheet.specs.Calls.{contradicted, landed, rested, full_swept, news, newly, outcome}
 use Rattle.sheet.specs.Laws.{Fits, Complete, Sweeps}
 use Rattle.sheet.proofs.Standing.{lit_follows}
 use Rattle.sheet.proofs.Sweeping.{own_occurring, news-lowest, sweep_moves, sweep_agrees, followed_equal}

@@ -1,10 +1,10 @@
 -- What each call on a sheet does, and when it is refused. Assumes nothing.
-use Rattle.std.specs.Prelude.{◌≡◌, ℕ, ◌+◌, ◌*◌, ◌≤◌, Bool, true, false, cond, ◌&&◌, ◌||◌, List, [], ◌∷◌, ◌++◌, length, Some, None, Ok, Err, Option, Result, ◌==◌, nat_le, slice_index}
+use Rattle.std.specs.Prelude.{◌≡◌, ℕ, ◌*◌, ◌≤◌, Bool, true, false, cond, ◌&&◌, ◌||◌, List, [], ◌∷◌, ◌++◌, length, Some, None, Ok, Err, Option, Result, ◌==◌, nat_le, slice_index}
 use Rattle.faults.specs.declared.SheetFault.{SheetFault}
 use Rattle.faults.specs.declared.SheetFault.TheVariants.{NoSuchVariable, TooManyLiterals, StoreFull, Contradictory, Capacity, SpaceShort}
 use Rattle.cnf.specs.Truth.{named, inside}
 use Rattle.cnf.specs.Words.{encode}
-use Rattle.cnf.specs.Table.{by, rep, Own, applied, fresh, kind_of, kind_number}
+use Rattle.cnf.specs.Table.{by, Own, applied, fresh, kind_of, kind_number}
 use Rattle.cnf.specs.Finite.{is_backbone, lowest}
 use Rattle.classes.specs.Renumber.{mentions, occurs, occurring, below}
 use Rattle.propagation.specs.Propagate.{Rewritten, rewritten}

@@ -6,7 +6,7 @@ use Rattle.cnf.specs.Table.{by}
 use Rattle.classes.specs.Renumber.{Stands, occurring}
 use Rattle.propagation.specs.Follow.{Moves}
 use Rattle.sheet.specs.declared.outcome.Outcome.{Outcome}
-use Rattle.sheet.specs.State.{State, broken}
+use Rattle.sheet.specs.State.{State}
 
 -- the entries replace representatives, and every assignment of the sheet agrees
 pub record Replaces (s : State) (entries : List ℕ) : Type 0 where

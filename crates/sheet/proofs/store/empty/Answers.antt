@@ -1,4 +1,4 @@
-use Rattle.std.proofs.Common.{false, length, refl, arith}
+use Rattle.std.proofs.Common.{length, refl}
 use Rattle.std.proofs.lemmas.List.{get_or-set_same}
 use Rattle.sheet.proofs.Keeping.{cleared}
 use Rattle.sheet.proofs.store.empty.Goals as goal

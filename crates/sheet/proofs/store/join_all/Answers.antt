@@ -1,4 +1,3 @@
-use Rattle.std.proofs.Common.{arith}
 use Rattle.sheet.proofs.Storing.{joining_all_none, here_fits, here_named, joining_all_more, joining_all_done}
 use Rattle.sheet.proofs.store.join_all.Goals as goal
 

@@ -1,6 +1,6 @@
-use Rattle.std.proofs.Common.{◌≡◌, length, get_or, sym, refl, ap, ◌∙◌, arith}
+use Rattle.std.proofs.Common.{◌≡◌, length, refl, ap, ◌∙◌, arith}
 use Rattle.classes.specs.Renumber.{below}
-use Rattle.sheet.proofs.Counting.{Counts, turns, counts_fixed, counts_tied, counts_free, counts_other, counts_few}
+use Rattle.sheet.proofs.Counting.{turns, counts_fixed, counts_tied, counts_free, counts_other, counts_few}
 use Rattle.sheet.proofs.sweep.count.Goals as goal
 use Rattle.sheet.proofs.sweep.count.Goals.{then-free+then-after-v+then-after-v-lt2, then-free+then-after-v+else-after-v-lt2, else-free, else-free-via-then-free+else-after-v, else-free-via-else-free}
 

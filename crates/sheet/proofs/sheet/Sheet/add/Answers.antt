@@ -1,4 +1,4 @@
-use Rattle.std.proofs.Common.{◌≡◌, ℕ, ◌-◌, true, List, take, Some, None, Ok, Option, sym, refl, ap, ◌∙◌, subst}
+use Rattle.std.proofs.Common.{◌≡◌, ℕ, List, Some, Ok, Option, sym, refl, ap, ◌∙◌}
 use Rattle.cnf.specs.Truth.{inside}
 use Rattle.cnf.specs.Table.{by, applied}
 use Rattle.sheet.specs.Of.{state_of}

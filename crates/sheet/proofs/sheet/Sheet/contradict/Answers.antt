@@ -1,4 +1,4 @@
-use Rattle.std.proofs.Common.{sym, refl, ◌∙◌}
+use Rattle.std.proofs.Common.{refl, ◌∙◌}
 use Rattle.std.specs.Vec.{with_items}
 use Rattle.sheet.proofs.Keeping.{ghosts, lands_contradicted}
 use Rattle.sheet.proofs.sheet.Sheet.contradict.Goals as goal

@@ -1,4 +1,4 @@
-use Rattle.std.proofs.Common.{◌≡◌, ℕ, ◌≤◌, min, false, List, [], length, get_or, take, sym, refl, ap, ◌∙◌, subst}
+use Rattle.std.proofs.Common.{◌≡◌, ℕ, min, false, List, [], length, get_or, take, sym, ap, ◌∙◌, subst}
 use Rattle.cnf.specs.Words.{read}
 use Rattle.cnf.specs.Table.{fresh}
 use Rattle.cnf.proofs.Reading.{read-nil}

@@ -1,6 +1,5 @@
-use Rattle.std.proofs.Common.{◌≡◌, ℕ, ◌<◌, false, eqb, List, length, sym, refl, ◌∙◌, arith}
+use Rattle.std.proofs.Common.{refl}
 use Rattle.std.specs.Vec.{with_items}
-use Rattle.std.proofs.lemmas.Bool.{eqb-false}
 use Rattle.sheet.proofs.Keeping.{ghosts}
 use Rattle.sheet.proofs.Joining.{some_left, too_long, short_enough, landed}
 use Rattle.sheet.proofs.sheet.Sheet.store.Goals as goal

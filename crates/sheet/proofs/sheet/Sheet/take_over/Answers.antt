@@ -1,14 +1,12 @@
-use Rattle.std.proofs.Common.{◌≡◌, ◌-◌, ◌≤◌, cond, length, take, Some, None, sym, refl, ap, ◌∙◌, arith}
+use Rattle.std.proofs.Common.{◌-◌, length, take, sym, refl, ap, ◌∙◌, arith}
 use native.Mathlib.Nat.{min-le_left}
 use borrow.Rule.Slice.PartMut.{put_mid}
 use Rattle.std.specs.Vec.{with_items}
 use Rattle.cnf.specs.Words.{encode, read}
-use Rattle.cnf.specs.Table.{by}
 use Rattle.cnf.proofs.Reading.{read_means}
-use Rattle.propagation.specs.Propagate.{rewritten, Leaves}
 use Rattle.sheet.specs.Of.{state_of}
 use Rattle.sheet.specs.Calls.{newly}
-use Rattle.sheet.proofs.Keeping.{Lands, sheet_kept, ghosts, front}
+use Rattle.sheet.proofs.Keeping.{sheet_kept, ghosts, front}
 use Rattle.sheet.proofs.Landing.{ready_fine, over_none, room_none, answer_none, over_some, answer_some, leaves_same, copied, part_size}
 use Rattle.sheet.proofs.sheet.Sheet.take_over.Goals as goal
 

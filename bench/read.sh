@@ -4,7 +4,8 @@
 # Needs rt, g++, python3 and Debian's libcadical-dev. Prints the best times of both and their ratio.
 set -euo pipefail
 cd "$(dirname "$0")/.."
-[ -x target/bin/cnfcheck ] || rt check cnfcheck >/dev/null
+program=crates/cnfcheck/out/cnfcheck
+[ -x "$program" ] || (cd crates/cnfcheck && rt run < ../../examples/two-ands.cnf) >/dev/null 2>&1
 work=$(mktemp -d)
 trap 'rm -rf "$work"' EXIT
 cat > "$work/parse.cpp" <<'CPP'
@@ -18,9 +19,9 @@ int main() {
 }
 CPP
 g++ -O2 "$work/parse.cpp" -lcadical -o "$work/parse"
-python3 - "$work" <<'PY'
+python3 - "$work" "$program" <<'PY'
 import random, subprocess, sys, time
-work = sys.argv[1]
+work, program = sys.argv[1:]
 rng = random.Random(7)
 body, count, size = [], 0, 0
 while True:
@@ -34,22 +35,22 @@ text += b"c" + b" " * (60000 - len(text) - 2) + b"\n"
 assert len(text) == 60000
 open(work + "/full.cnf", "wb").write(text)
 
-def once(program):
+def once(command):
     with open(work + "/full.cnf", "rb") as stdin:
         start = time.perf_counter()
-        done = subprocess.run([program], stdin=stdin, stdout=subprocess.PIPE, check=True)
+        done = subprocess.run([command], stdin=stdin, stdout=subprocess.PIPE, check=True)
         return time.perf_counter() - start, done.stdout.decode().strip()
 
 ours, peer = [], []
 for _ in range(200):
-    ours.append(once("target/bin/cnfcheck"))
+    ours.append(once(program))
     peer.append(once(work + "/parse"))
 print("text 60000 bytes:", ours[0][1], "| peer:", peer[0][1])
 best = lambda runs: min(t for t, _ in runs)
 print("cnfcheck %.2f ms, cadical's parser %.2f ms, ratio %.2f (whole processes, best of 200)" % (best(ours) * 1e3, best(peer) * 1e3, best(ours) / best(peer)))
 PY
 if command -v valgrind >/dev/null; then
-    for p in target/bin/cnfcheck "$work/parse"; do
+    for p in "$program" "$work/parse"; do
         printf '%s ' "$(basename "$p")"
         valgrind --tool=callgrind --callgrind-out-file=/dev/null "$p" < "$work/full.cnf" 2>&1 | grep -o 'Collected.*'
     done

@@ -5,9 +5,10 @@
 set -euo pipefail
 cd "$(dirname "$0")/.."
 command -v cadical >/dev/null || { echo "bench/solve.sh: cadical is not installed" >&2; exit 1; }
-[ -x target/bin/cnfcheck ] || rt check cnfcheck >/dev/null
-python3 - <<'PY'
-import glob, subprocess, time
+program=crates/cnfcheck/out/cnfcheck
+[ -x "$program" ] || (cd crates/cnfcheck && rt run < ../../examples/two-ands.cnf) >/dev/null 2>&1
+python3 - "$program" <<'PY'
+import glob, subprocess, sys, time
 
 def once(command, file):
     with open(file, "rb") as stdin:
@@ -35,7 +36,7 @@ def peers(out):
     return out.strip()
 
 for file in sorted(glob.glob("bench/cnf/*.cnf")):
-    a, x = best(["target/bin/cnfcheck", "--solve"], file, ours)
+    a, x = best([sys.argv[1], "--solve"], file, ours)
     b, y = best(["cadical", "-q"], file, peers)
     ratio = "%.2f" % (a / b) if a and b else "-"
     show = lambda t: "%.1f ms" % (t * 1e3) if t else "-"

@@ -1,5 +1,5 @@
 #!/usr/bin/env bash
-# Sweeping: target/bin/sweep against a sweeper over libcadical, on circuits that stand twice in a text, in one run.
+# Sweeping: crates/sweep/out/sweep against a sweeper over libcadical, on circuits that stand twice in a text, in one run.
 # Needs g++, python3, Debian's libcadical-dev, and berkeley-abc for the texts that abc makes.
 # Both reports are compared byte for byte. Prints nets, clauses, both times (best of three) and their ratio.
 # A run is cut off after two minutes. Arguments, as `mul-4 add-16`, choose other texts.
@@ -10,7 +10,7 @@ need g++
 need python3
 [ -e /usr/include/cadical.hpp ] || { echo "bench/sweep.sh: libcadical-dev is not installed" >&2; exit 1; }
 command -v berkeley-abc >/dev/null || echo "bench/sweep.sh: berkeley-abc is not installed, so only the texts by own rewriting are swept"
-[ -x target/bin/sweep ] || echo "bench/sweep.sh: there is no target/bin/sweep, so the peer runs alone"
+[ -x crates/sweep/out/sweep ] || echo "bench/sweep.sh: there is no crates/sweep/out/sweep, so the peer runs alone"
 work=$(mktemp -d)
 trap 'rm -rf "$work"' EXIT
 g++ -O2 bench/sweep_peer.cpp -lcadical -o "$work/peer"
@@ -41,7 +41,7 @@ def best(program, file):
     return min(run[0] for run in runs) if runs[0][0] is not None else None, runs[0][1]
 
 show = lambda t: "%.1f ms" % (t * 1e3) if t is not None else "not in time"
-ours = "target/bin/sweep" if os.access("target/bin/sweep", os.X_OK) else None
+ours = "crates/sweep/out/sweep" if os.access("crates/sweep/out/sweep", os.X_OK) else None
 for file in sorted(glob.glob(work + "/*.cnf"), key=lambda f: os.path.getsize(f)):
     nets, clauses = next(l for l in open(file) if l.startswith("p")).split()[2:]
     line = "%-14s %6d bytes %5s nets %5s clauses" % (os.path.basename(file)[:-4], os.path.getsize(file), nets, clauses)

@@ -2,7 +2,7 @@
 """A sweep by all assignments, for texts of at most 10 nets, to compare `sweep` with.
 
     sweep_reference.py FILE                                    prints the report of a well-formed text
-    sweep_reference.py --count N [--seed S] [--program PATH]   compares PATH (target/bin/sweep) on N random texts
+    sweep_reference.py --count N [--seed S] [--program PATH]   compares PATH (crates/sweep/out/sweep) on N random texts
 """
 import argparse
 import os
@@ -104,7 +104,7 @@ def main():
     args.add_argument("file", nargs="?")
     args.add_argument("--count", type=int)
     args.add_argument("--seed", type=int, default=1)
-    args.add_argument("--program", default="target/bin/sweep")
+    args.add_argument("--program", default="crates/sweep/out/sweep")
     args = args.parse_args()
     if args.count is not None:
         compare(args.count, args.seed, args.program)

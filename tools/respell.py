@@ -13,6 +13,8 @@ DEF = re.compile(r"^(\s*)(pub )?(abbrev |unfoldable )?(pub )?(?:(record |data )(
 KEYWORDS = {"use", "module", "where", "let", "in", "elim", "unfolding", "mod", "open", "ruleset", "--", "λ", "|", "record", "pub"}
 # Functions of the library whose names a dash may join.
 LIBRARY = {"length", "take", "drop", "set", "get_or", "map", "append", "replicate", "sum", "filter", "zero", "suc", "some", "none", "nil", "cons"}
+# Functions of the crates that had not landed yet, so that the landed names come out alike without those crates.
+BEGUN = {"followed", "line", "minus"}
 # Names whose new spelling no rule gives.
 CHOSEN = {"equal?": "is_equal", "backbone?": "is_backbone", "getD-zeros": "get_or-zeros"}
 
@@ -57,7 +59,7 @@ def definitions():
 
 
 def respelled(kinds):
-    functions = LIBRARY | {n for n, k in kinds.items() if "function" in k}
+    functions = LIBRARY | BEGUN | {n for n, k in kinds.items() if "function" in k}
     new = {}
     for name, kind in kinds.items():
         if name in CHOSEN:

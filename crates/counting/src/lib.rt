@@ -3,7 +3,7 @@
 
 ghost use Rattle.std.specs.Prelude.{◌≡◌, ◌≤◌, IfOk, None, vec_capacity};
 ghost use Rattle.solver.specs.Search.{kept_by};
-ghost use Rattle.std.proofs.Common.{rules, arith};
+ghost use Rattle.std.proofs.Common.{rules};
 
 mod find;
 #[cfg(test)]
@@ -49,7 +49,7 @@ impl Solver for CountingSolver {
 
     ghost most = { 20 };
 
-    ghost bounds = { first_of (Prim.search rules, Prim.grind (arith, Self.row.coded.inj)) };
+    ghost bounds = { Prim.search rules };
 
     fn limit() -> usize {
         Self::CAPACITY

@@ -1,7 +1,7 @@
 // The bytes of one line: three numbers, each right-justified in six columns, and a line feed.
 ghost use Rattle.std.specs.Prelude.{◌≡◌, ◌*◌, ◌<◌, ◌≤◌};
 ghost use Rattle.cnf.specs.Table.{kind_of};
-ghost use Rattle.report.specs.Lines.{has_digit, place, column as columnOf, line as line_of, kind_line};
+ghost use Rattle.report.specs.Lines.{has_digit, place, column as column_of, line as line_of, kind_line};
 
 use cnf::kind::Kind;
 
@@ -28,7 +28,7 @@ fn byte_at(negative: bool, number: usize, worth: usize) -> u8
 
 // A number in its six columns.
 fn column(negative: bool, number: usize) -> [u8; 6]
-    ensures { result ≡ columnOf negative number }
+    ensures { result ≡ column_of negative number }
 {
     [
         byte_at(negative, number, 100_000),

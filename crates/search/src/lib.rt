@@ -3,7 +3,7 @@
 
 ghost use Rattle.std.specs.Prelude.{◌≡◌, IfOk, None};
 ghost use Rattle.solver.specs.Search.{kept_by};
-ghost use Rattle.std.proofs.Common.{rules, arith};
+ghost use Rattle.std.proofs.Common.{rules};
 
 mod cell;
 mod searcher;
@@ -45,7 +45,7 @@ impl Solver for SearchSolver {
 
     ghost most = { 2000 };
 
-    ghost bounds = { first_of (Prim.search rules, Prim.grind (arith, Self.row.coded.inj)) };
+    ghost bounds = { Prim.search rules };
 
     fn limit() -> usize {
         Self::CAPACITY

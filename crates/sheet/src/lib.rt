@@ -7,6 +7,8 @@ mod outcome;
 mod sheet;
 mod store;
 mod sweep;
+#[cfg(test)]
+mod tests;
 
 pub use open::Unopened;
 pub use outcome::Outcome;

@@ -17,7 +17,7 @@ returns-then-old-own g c = record {
   good = c.requires.good;
   plain = c.requires.plain;
   tallied = omega arith;
-  step = λ cs s. keep cs _ _ _ s c.if-old-own.true;
+  step = λ cs s. keep cs _ _ _ s (omega arith);
 }
 
 pub differ-requires : goal.differ-requires

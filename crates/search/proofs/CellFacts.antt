@@ -128,12 +128,12 @@ extend_set c i x a h f e = record {
       ⊎_elim
       (λ (s : k ≡ i).
       let Q : ℕ → Type 0 = λ j. Fits x (a (suc j)) in
-      subst P (sym (ap (get_d_at c i x) s ∙ get_or-set_same c i x Open h)) (subst Q (sym s) f))
+      subst P (sym (ap (get_or-at c i x) s ∙ get_or-set_same c i x Open h)) (subst Q (sym s) f))
       (λ (n : k ≡ i → ⊥). subst P (sym (get_or-set_other c i k x Open n)) (e.fits k)) (cases_eq k i);
 }
   where
-    get_d_at : (c : List Cell) (i : ℕ) (x : Cell) → ℕ → Cell
-    get_d_at c i x j = get_or (set c i x) j Open
+    get_or-at : (c : List Cell) (i : ℕ) (x : Cell) → ℕ → Cell
+    get_or-at c i x j = get_or (set c i x) j Open
 
 not_back : (b : Bool) → not b ≡ true → b ≡ false
 not_back true e = sym e

@@ -18,6 +18,7 @@ fn a_sheet_is_opened_and_added_to(rt: HostRuntime) -> Result<(), Fail> {
     assert_eq!(rt; sheet.add(&[2, 4, 2]), Ok(()));
     assert_eq!(rt; sheet.add(&[3, 4]), Err(SheetFault::StoreFull));
     assert_eq!(rt; sheet.add(&[3]), Ok(()));
+    assert_eq!(rt; sheet.wake(), Ok(()));
     assert_eq!(rt; sheet.add(&[]), Ok(()));
     assert!(rt; sheet.is_contradictory());
     assert_eq!(rt; sheet.add(&[2]), Err(SheetFault::Contradictory));

@@ -1,39 +1,33 @@
 -- The test over all rows of bits means what it says. Assumes nothing.
-use Rattle.std.proofs.Common.{◌≡◌, ℕ, zero, suc, ◌+◌, ◌/◌, ◌%◌, ◌<◌, ◌≤◌, Bool, true, false, cond, not, ◌&&◌, ◌||◌, eqb, leb, List, [], ◌∷◌, ◌++◌, map, length, get_or, filter, sym, refl, ap, ◌∙◌, inl, inr, arith}
+use Rattle.std.proofs.Common.{◌≡◌, ℕ, zero, suc, ◌+◌, ◌/◌, ◌%◌, ◌<◌, ◌≤◌, Bool, true, false, cond, not, ◌&&◌, ◌||◌, eqb, leb, List, [], ◌∷◌, map, length, get_or, filter, sym, refl, ap, ◌∙◌, inl, inr, arith}
 use mathlib.Core.Bool.{beq}
+use Rattle.std.specs.List.{list_all}
+use Rattle.std.proofs.lemmas.List.Folds.{list_all-append, list_all-map}
 use Rattle.std.proofs.lemmas.Bool.{and_parts, and_from, both_ways, cases_lt}
 use Rattle.std.proofs.lemmas.Bool.Decides.{nat_tests}
 use Rattle.cnf.specs.Truth.{told, lit, clause, clauses, inside, Equal}
 use Rattle.cnf.specs.Words.{good, goods}
-use Rattle.cnf.specs.Finite.{rows, models, passes, is_equal, is_backbone, first}
+use Rattle.cnf.specs.Finite.{rows, models, is_equal, is_backbone, first}
 use Rattle.cnf.specs.Laws.{EqualMeans, BackboneMeans, BackboneEqualsTrue}
 
 module _ {X : Type 0} where
-  passes_append : (p : X → Bool) (xs ys : List X) → passes p (xs ++ ys) ≡ (passes p xs && passes p ys)
-  passes_append p [] ys = refl
-  passes_append p (x ∷ xs) ys = elim (p x) as (λ b. (b && passes p (xs ++ ys)) ≡ ((b && passes p xs) && passes p ys)) [ true ↦ passes_append p xs ys | false ↦ refl ]
-
-  passes-map : {Y : Type 0} (p : X → Bool) (f : Y → X) (ys : List Y) → passes p (map f ys) ≡ passes (λ y. p (f y)) ys
-  passes-map p f [] = refl
-  passes-map p f (y ∷ ys) = ap (λ b. p (f y) && b) (passes-map p f ys)
-
-  passes_kept : (p q : X → Bool) (xs : List X) → passes p (filter q xs) ≡ passes (λ x. not (q x) || p x) xs
+  passes_kept : (p q : X → Bool) (xs : List X) → list_all p (filter q xs) ≡ list_all (λ x. not (q x) || p x) xs
   passes_kept p q [] = refl
   passes_kept p q (x ∷ xs) =
-      elim (q x) as (λ b. passes p (cond b (x ∷ filter q xs) (filter q xs)) ≡ ((not b || p x) && passes (λ y. not (q y) || p y) xs))
+      elim (q x) as (λ b. list_all p (cond b (x ∷ filter q xs) (filter q xs)) ≡ ((not b || p x) && list_all (λ y. not (q y) || p y) xs))
       [ true ↦ ap (λ b. p x && b) (passes_kept p q xs) | false ↦ passes_kept p q xs ]
 
-rows_more : (m : ℕ) (p : List Bool → Bool) → passes p (rows (suc m)) ≡ (passes (λ bs. p (false ∷ bs)) (rows m) && passes (λ bs. p (true ∷ bs)) (rows m))
-rows_more m p = passes_append p (map (λ bs. false ∷ bs) (rows m)) (map (λ bs. true ∷ bs) (rows m)) ∙ simp passes-map
+rows_more : (m : ℕ) (p : List Bool → Bool) → list_all p (rows (suc m)) ≡ (list_all (λ bs. p (false ∷ bs)) (rows m) && list_all (λ bs. p (true ∷ bs)) (rows m))
+rows_more m p = list_all-append p (map (λ bs. false ∷ bs) (rows m)) (map (λ bs. true ∷ bs) (rows m)) ∙ simp list_all-map
 
-sound : (m : ℕ) (p : List Bool → Bool) → passes p (rows m) ≡ true → (bs : List Bool) → length bs ≡ m → p bs ≡ true
+sound : (m : ℕ) (p : List Bool → Bool) → list_all p (rows m) ≡ true → (bs : List Bool) → length bs ≡ m → p bs ≡ true
 sound zero p e [] h = (and_parts (p []) true e).0
 sound zero p e (b ∷ bs) h = absurd (omega arith)
 sound (suc m) p e [] h = absurd (omega arith)
 sound (suc m) p e (false ∷ bs) h = sound m (λ x. p (false ∷ x)) (and_parts _ _ (sym (rows_more m p) ∙ e)).0 bs (omega arith)
 sound (suc m) p e (true ∷ bs) h = sound m (λ x. p (true ∷ x)) (and_parts _ _ (sym (rows_more m p) ∙ e)).1 bs (omega arith)
 
-complete : (m : ℕ) (p : List Bool → Bool) → ((bs : List Bool) → length bs ≡ m → p bs ≡ true) → passes p (rows m) ≡ true
+complete : (m : ℕ) (p : List Bool → Bool) → ((bs : List Bool) → length bs ≡ m → p bs ≡ true) → list_all p (rows m) ≡ true
 complete zero p f = and_from (p []) true (f [] refl) refl
 complete (suc m) p f =
     rows_more m p
@@ -108,7 +102,7 @@ pub equal_means : EqualMeans
 unfolding is_equal
 equal_means m cs c d g hc hd = (there, back)
   where
-    there : passes (tied c d) (models m cs) ≡ true → Equal cs c d
+    there : list_all (tied c d) (models m cs) ≡ true → Equal cs c d
     there e a s =
         let r = row_told m a s.constant in
         let w = split (fits cs (row m a)) (tied c d (row m a))
@@ -116,7 +110,7 @@ equal_means m cs c d g hc hd = (there, back)
         (clauses_same m (told (row m a)) a r cs g ∙ s.holds) in
         sym (lit_same m (told (row m a)) a r c hc) ∙ beq_same _ _ w ∙ lit_same m (told (row m a)) a r d hd
 
-    back : Equal cs c d → passes (tied c d) (models m cs) ≡ true
+    back : Equal cs c d → list_all (tied c d) (models m cs) ≡ true
     back f =
         passes_kept (tied c d) (fits cs) (rows m)
         ∙ complete m _ (λ bs h. join (fits cs bs) (tied c d bs) (λ k. same_beq _ _ (f (told bs) (record { constant = refl; holds = k }))))
@@ -125,9 +119,9 @@ beq_true : (x : Bool) → beq x true ≡ x
 beq_true true = refl
 beq_true false = refl
 
-passes_same : {X : Type 0} (p q : X → Bool) → ((x : X) → p x ≡ q x) → (xs : List X) → passes p xs ≡ passes q xs
+passes_same : {X : Type 0} (p q : X → Bool) → ((x : X) → p x ≡ q x) → (xs : List X) → list_all p xs ≡ list_all q xs
 passes_same p q e [] = refl
-passes_same p q e (x ∷ xs) = ap (λ b. b && passes p xs) (e x) ∙ ap (λ b. q x && b) (passes_same p q e xs)
+passes_same p q e (x ∷ xs) = ap (λ b. b && list_all p xs) (e x) ∙ ap (λ b. q x && b) (passes_same p q e xs)
 
 pub backbone_equals_true : BackboneEqualsTrue
 unfolding is_backbone is_equal

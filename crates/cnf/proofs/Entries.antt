@@ -1,5 +1,5 @@
 -- A table's facts by its entries, and the table in which each literal represents itself. Assumes nothing.
-use Rattle.std.proofs.Common.{◌≡◌, ℕ, zero, suc, ◌+◌, ◌-◌, ◌*◌, ◌/◌, ◌%◌, ◌<◌, ◌≤◌, Bool, true, false, cond, eqb, List, [], ◌∷◌, ◌++◌, length, get_or, Some, None, vec_items, Option, unwrap_or, sym, refl, ap, ◌∙◌, inl, inr, arith, Bor}
+use Rattle.std.proofs.Common.{◌≡◌, ℕ, zero, suc, ◌+◌, ◌-◌, ◌*◌, ◌/◌, ◌%◌, ◌<◌, ◌≤◌, Bool, true, false, cond, eqb, List, length, get_or, Some, None, vec_items, Option, unwrap_or, sym, refl, ap, ◌∙◌, inl, inr, arith, Bor}
 use Rattle.std.specs.Option.{option_map}
 use Rattle.std.specs.Slice.{IsGetResult}
 use Rattle.std.proofs.lemmas.List.{get_or_past, get_or_read}
@@ -92,14 +92,6 @@ pub fresh_entry : (u k v : ℕ) → v < k → get_or (fresh_from u k) v 0 ≡ 2 
 fresh_entry u zero v h = absurd (omega arith)
 fresh_entry u (suc k) zero h = omega arith
 fresh_entry u (suc k) (suc v) h = omega (arith, fresh_entry (u + 1) k v (omega arith))
-
--- a loop's step
-pub fresh_more : (v : ℕ) → fresh_from 0 v ++ 2 * v ∷ [] ≡ fresh_from 0 (v + 1)
-fresh_more v = let e : suc v ≡ v + 1 = omega arith in let z : v ≡ 0 + v = omega arith in ap (λ x. fresh_from 0 v ++ 2 * x ∷ []) z ∙ step 0 v ∙ ap (fresh_from 0) e
-  where
-    step : (u k : ℕ) → fresh_from u k ++ 2 * (u + k) ∷ [] ≡ fresh_from u (suc k)
-    step u zero = let e : u + 0 ≡ u = omega arith in ap (λ x. 2 * x ∷ []) e
-    step u (suc k) = let e : u + suc k ≡ u + 1 + k = omega arith in ap (λ x. 2 * u ∷ (fresh_from (u + 1) k ++ 2 * x ∷ [])) e ∙ ap (λ xs. 2 * u ∷ xs) (step (u + 1) k)
 
 pub fresh_tabled : (n : ℕ) → Tabled (fresh n)
 fresh_tabled n = tabled_from_entries (fresh n) (record { constant = fresh_entry 0 (n + 1) 0 (omega arith); low = low; own = own })

@@ -1,6 +1,7 @@
 -- The assignments to m variables, one after the other, and tests over them. Assumes nothing.
-use Rattle.std.specs.Prelude.{ℕ, zero, suc, ◌+◌, ◌*◌, Bool, true, false, cond, ◌&&◌, List, [], ◌∷◌, ◌++◌, map, filter}
+use Rattle.std.specs.Prelude.{ℕ, zero, suc, ◌+◌, ◌*◌, Bool, true, false, cond, List, [], ◌∷◌, ◌++◌, map, filter}
 use Rattle.std.specs.Bool.{beq}
+use Rattle.std.specs.List.{list_all}
 use Rattle.cnf.specs.Truth.{told, lit, clauses}
 
 -- every list of m bits
@@ -12,18 +13,13 @@ rows (suc m) = map (λ bs. false ∷ bs) (rows m) ++ map (λ bs. true ∷ bs) (r
 abbrev pub models : ℕ → List (List ℕ) → List (List Bool)
 models m cs = filter (λ bits. clauses (told bits) cs) (rows m)
 
--- whether each element has p
-abbrev pub passes : {X : Type 0} → (X → Bool) → List X → Bool
-passes p [] = true
-passes p (x ∷ xs) = p x && passes p xs
-
 -- whether the literal is true in every model
 unfoldable pub is_backbone : ℕ → List (List ℕ) → ℕ → Bool
-is_backbone m cs c = passes (λ bits. lit (told bits) c) (models m cs)
+is_backbone m cs c = list_all (λ bits. lit (told bits) c) (models m cs)
 
 -- whether every model agrees on the two literals
 unfoldable pub is_equal : ℕ → List (List ℕ) → ℕ → ℕ → Bool
-is_equal m cs c d = passes (λ bits. beq (lit (told bits) c) (lit (told bits) d)) (models m cs)
+is_equal m cs c d = list_all (λ bits. beq (lit (told bits) c) (lit (told bits) d)) (models m cs)
 
 -- the first of k numbers from c on with p, or the one after them
 abbrev pub first : (ℕ → Bool) → ℕ → ℕ → ℕ

@@ -1,5 +1,6 @@
 -- A table of representatives, and what it makes of a clause: entry v is the representative of the literal 2v. Assumes nothing.
-use Rattle.std.specs.Prelude.{◌≡◌, ℕ, zero, suc, ◌+◌, ◌*◌, ◌/◌, ◌%◌, ◌<◌, ◌≤◌, Bool, true, false, cond, ◌&&◌, ◌||◌, List, [], ◌∷◌, ◌++◌, length, Some, None, Option, ◌==◌, nat_lt, slice_index}
+use Rattle.std.specs.Prelude.{◌≡◌, ℕ, ◌+◌, ◌*◌, ◌/◌, ◌%◌, ◌<◌, ◌≤◌, Bool, true, false, cond, ◌&&◌, ◌||◌, List, [], ◌∷◌, ◌++◌, map, length, Some, None, Option, ◌==◌, nat_lt, slice_index}
+use Rattle.std.specs.List.{list_any, range_with_len}
 use Rattle.cnf.specs.declared.kind.Kind.{Kind}
 use Rattle.cnf.specs.declared.kind.Kind.TheVariants.{Free, Fixed, Tied}
 use Rattle.cnf.specs.Truth.{opp, lit, clause}
@@ -23,11 +24,11 @@ pub record Tabled (t : List ℕ) : Type 0 where
   pub lower : (c : ℕ) → c / 2 < length t → rep t c / 2 ≤ c / 2
   pub itself : (c : ℕ) → c / 2 < length t → rep t (rep t c) ≡ rep t c
 
--- the table of n variables in which each literal represents itself
+-- the entries of k variables from u on, each the variable's own literal
 abbrev pub fresh_from : ℕ → ℕ → List ℕ
-fresh_from v zero = []
-fresh_from v (suc k) = 2 * v ∷ fresh_from (v + 1) k
+fresh_from u k = map (λ v. 2 * v) (range_with_len u k)
 
+-- the table of n variables in which each literal represents itself
 abbrev pub fresh : ℕ → List ℕ
 fresh n = fresh_from 0 (n + 1)
 
@@ -47,8 +48,7 @@ kind_number (Tied r) = 2
 
 -- whether a row of codes has a code
 abbrev pub has : List ℕ → ℕ → Bool
-has [] d = false
-has (x ∷ xs) d = x == d || has xs d
+has xs d = list_any (λ x. x == d) xs
 
 -- the clause `out` with one literal more: false and a repeat are dropped; None is a clause with true or two opposite literals in it
 abbrev pub put : List ℕ → ℕ → Option (List ℕ)

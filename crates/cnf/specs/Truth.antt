@@ -1,7 +1,8 @@
 -- Literals, clauses and what an assignment makes of them. Assumes nothing.
 -- A literal is a code: 2v is the variable v, and 2v + 1 its opposite. Variable 0 is the constant false, so code 0 is false and code 1 is true.
 -- An assignment is a function from variables to bits that gives variable 0 false.
-use Rattle.std.specs.Prelude.{◌≡◌, ℕ, ◌+◌, ◌-◌, ◌*◌, ◌/◌, ◌%◌, Bool, true, false, cond, not, ◌&&◌, ◌||◌, List, [], ◌∷◌, ◌==◌, nat_le, slice_index_or}
+use Rattle.std.specs.Prelude.{◌≡◌, ℕ, ◌+◌, ◌-◌, ◌*◌, ◌/◌, ◌%◌, Bool, true, false, cond, not, ◌&&◌, List, ◌∷◌, ◌==◌, nat_le, slice_index_or}
+use Rattle.std.specs.List.{list_any, list_all}
 
 -- the opposite literal
 abbrev pub opp : ℕ → ℕ
@@ -17,13 +18,11 @@ lit a c = cond (c % 2 == 0) (a (c / 2)) (not (a (c / 2)))
 
 -- whether some literal of a clause is true
 abbrev pub clause : (ℕ → Bool) → List ℕ → Bool
-clause a [] = false
-clause a (c ∷ cs) = lit a c || clause a cs
+clause a cs = list_any (lit a) cs
 
 -- whether every clause of a set is true
 abbrev pub clauses : (ℕ → Bool) → List (List ℕ) → Bool
-clauses a [] = true
-clauses a (c ∷ cs) = clause a c && clauses a cs
+clauses a cs = list_all (clause a) cs
 
 -- an assignment that satisfies a set of clauses
 pub record Model (cs : List (List ℕ)) (a : ℕ → Bool) : Type 0 where
@@ -44,5 +43,4 @@ named m c = nat_le 2 c && nat_le c (2 * m + 1)
 
 -- whether each code is of a variable from 1 to m
 abbrev pub inside : ℕ → List ℕ → Bool
-inside m [] = true
-inside m (c ∷ cs) = named m c && inside m cs
+inside m cs = list_all (named m) cs

@@ -1,5 +1,6 @@
 -- A clause list in words: for each clause the count of its literals, then their codes. Assumes nothing.
 use Rattle.std.specs.Prelude.{ℕ, zero, suc, Bool, true, false, ◌&&◌, List, [], ◌∷◌, ◌++◌, length, take, nat_le}
+use Rattle.std.specs.List.{list_all}
 use Rattle.cnf.specs.Truth.{inside}
 
 -- the words of a list of clauses
@@ -12,8 +13,7 @@ abbrev pub good : ℕ → List ℕ → Bool
 good m c = nat_le (length c) 64 && inside m c
 
 abbrev pub goods : ℕ → List (List ℕ) → Bool
-goods m [] = true
-goods m (c ∷ cs) = good m c && goods m cs
+goods m cs = list_all (good m) cs
 
 -- the clauses of a word list, once k words of it are skipped
 unfoldable pub read_from : ℕ → List ℕ → List (List ℕ)

@@ -2,15 +2,15 @@
 ghost use Rattle.cnf.specs.Laws.{BackboneMeans, EqualMeans, BackboneEqualsTrue, ReadMeans, WrittenWell, AppliedKeepsTruth};
 
 // The tests over all rows of bits decide backbones and equal literals.
-pub fn tests_decide() -> u8
-    ensures { (BackboneMeans) × ((EqualMeans) × (BackboneEqualsTrue)) }
-{
-    0
-}
+pub fn tests_decide()
+    ensures backbone { BackboneMeans }
+    ensures equal { EqualMeans }
+    ensures constant { BackboneEqualsTrue }
+{}
 
 // Words are the clauses that were written, and replacing literals is replacing values.
-pub fn words_stand() -> u8
-    ensures { (ReadMeans) × ((WrittenWell) × (AppliedKeepsTruth)) }
-{
-    0
-}
+pub fn words_stand()
+    ensures read { ReadMeans }
+    ensures written { WrittenWell }
+    ensures applied { AppliedKeepsTruth }
+{}

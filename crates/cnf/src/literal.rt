@@ -2,6 +2,11 @@
 ghost use Rattle.std.specs.Prelude.{◌≡◌, ◌/◌};
 ghost use Rattle.cnf.specs.Truth.{opp, told, lit};
 
+// The literals of the constant.
+pub const FALSE: u16 = 0;
+
+pub const TRUE: u16 = 1;
+
 // The opposite literal.
 pub fn opposite(code: u16) -> u16
     ensures { result ≡ opp code }

@@ -8,10 +8,10 @@ use crate::kind::Kind;
 use crate::literal::{opposite, variable};
 use crate::open::OpenError;
 use faults::SheetFault;
-use std::alloc::{AllocError, Global};
+use std::alloc::Global;
 
-// The most nets that a table holds.
-const MAX_NETS: usize = 2000;
+// The most nets that a table, or what is built on one, holds.
+pub const MAX_NETS: usize = 2000;
 
 // The representative of a literal by the entries of a table; beyond them the constants stand in.
 pub fn representative(entries: &[u16], code: u16) -> u16
@@ -26,14 +26,13 @@ pub fn representative(entries: &[u16], code: u16) -> u16
 }
 
 // The entries with which each literal represents itself.
-fn own_entries(heap: Global, nets: usize) -> Result<Vec<u16>, AllocError>
-    requires { nets ≤ 2000 }
-    ensures { IfOk result (λ v. (v.items ≡ fresh nets) × (vec_len v ≡ nets + 1)) }
+pub fn own_entries(heap: Global, nets: usize) -> Result<Vec<u16>, OpenError>
+    ensures { MatchResult result (λ v. (nets ≤ 2000) × (v.items ≡ fresh nets)) (Refuses nets) }
 {
-    let mut entries = Vec::with_capacity(heap, nets + 1)?;
-    for v in 0..nets + 1 {
-        entries.push_reserved((2 * v) as u16);
+    if nets > MAX_NETS {
+        return Err(OpenError::Refused(SheetFault::TooManyNets));
     }
+    let entries = (0..nets + 1).map(|v| (2 * v) as u16).collect(heap)?;
     Ok(entries)
 }
 
@@ -53,9 +52,6 @@ impl Table {
     pub fn fresh(heap: Global, nets: usize) -> Result<Table, OpenError>
         ensures { MatchResult result (λ t. (nets ≤ 2000) × (t.entries.items ≡ fresh nets)) (Refuses nets) }
     {
-        if nets > MAX_NETS {
-            return Err(OpenError::Refused(SheetFault::TooManyNets));
-        }
         let entries = own_entries(heap, nets)?;
         Ok(Table { entries })
     }
@@ -81,23 +77,17 @@ impl Table {
     pub fn kind(&self, v: usize) -> Option<Kind>
         ensures { result ≡ kind_at self.now.entries.items v }
     {
-        if v == 0 || v >= self.entries.len() {
+        if v == 0 {
             return None;
         }
-        let r = self.entries[v];
-        if r as usize == 2 * v {
-            Some(Kind::Free)
-        } else if r < 2 {
-            Some(Kind::Fixed(r == 1))
-        } else {
-            Some(Kind::Tied(r))
-        }
+        let entry = self.entries.get(v)?;
+        Some(Kind::of(v, *entry))
     }
 
     // The entries, the constant's first.
     pub fn entries(&self) -> &[u16]
         ensures { result.now ≡ self.now.entries.items }
     {
-        self.entries.as_slice()
+        &self.entries
     }
 }

@@ -3,4 +3,4 @@ use Rattle.cnf.proofs.Tables.{applied_keeps_truth}
 use Rattle.cnf.proofs.laws.words_stand.Goals as goal
 
 pub returns : goal.returns
-returns c = (read_means, (written-well, applied_keeps_truth))
+returns c = record { read = read_means; written = written-well; applied = applied_keeps_truth }

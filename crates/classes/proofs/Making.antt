@@ -1,16 +1,20 @@
 -- The tables of a renumbering, over values. Assumes nothing.
 use Rattle.std.proofs.Common.{◌≡◌, ℕ, zero, suc, ◌+◌, ◌-◌, ◌*◌, ◌/◌, ◌%◌, ◌<◌, ◌≤◌, Bool, true, false, cond, ◌||◌, eqb, leb, List, [], ◌∷◌, ◌++◌, map, length, get_or, take, drop, set, replicate, sym, refl, ap, ◌∙◌, subst, ⊎_elim, arith, length-drop, length-set}
 use mathlib.Core.Path.{fun_ext}
-use Rattle.std.proofs.lemmas.List.{get_or-set_same, get_or-set_other, at_drop_more, take_more, take_all, drop_all, append-nil, append_assoc, get_or-drop, get_or-take, length-take-le, length-map, take_more_set, map_more, take-take, get_or_past}
+use Rattle.std.proofs.lemmas.List.{get_or-set_same, get_or-set_other, at_drop_more, take_more, take_all, drop_all, append-nil, append_assoc, get_or-drop, get_or-take, length-take-le, length-map, take_more_set, map_more, take-take, get_or_past, drop-set-lt, drop-drop, length-append}
+use Rattle.std.specs.List.{list_any}
+use Rattle.std.proofs.lemmas.List.Folds.{list_any-append}
+use borrow.Rule.Slice.PartMut.{put_mid}
+use Rattle.std.proofs.lemmas.Slice.{take-put_mid}
 use Rattle.std.proofs.lemmas.Bool.{cases_eq, cases_lt, cases_Bool, eq-eqb, ne_eqb, eqb-true, both_ways, or_cases, and_parts}
 use Rattle.std.proofs.lemmas.Bool.Decides.{nat_tests}
 use Rattle.cnf.specs.Truth.{inside}
 use Rattle.cnf.specs.Words.{read, well, encode, good, goods}
 use Rattle.cnf.specs.Table.{by}
 use Rattle.classes.specs.Renumber.{mentions, occurs, moved, renamed, below, Renumbers}
-use Rattle.cnf.proofs.Reading.{read_more, read-nil, clause_here}
+use Rattle.cnf.proofs.Reading.{first_good}
 use Rattle.classes.proofs.Renumbering.{moved_is}
-use Rattle.classes.specs.Marks.{Marks, or, Numbered, Shifts}
+use Rattle.classes.specs.Marks.{Marks, or, Numbered}
 
 or_move : (x y z : Bool) → ((x || y) || z) ≡ (x || (y || z))
 or_move true y z = refl
@@ -39,8 +43,7 @@ marks_more f t u l h = record {
 }
 
 mentions_push : (xs : List ℕ) (c v : ℕ) → mentions (xs ++ c ∷ []) v ≡ (mentions xs v || eqb (c / 2) v)
-mentions_push [] c v = or-none (eqb (c / 2) v)
-mentions_push (x ∷ xs) c v = ap (λ b. eqb (x / 2) v || b) (mentions_push xs c v) ∙ sym (or_move (eqb (x / 2) v) (mentions xs v) (eqb (c / 2) v))
+mentions_push xs c v = list_any-append (λ x. eqb (x / 2) v) xs (c ∷ []) ∙ ap (λ b. mentions xs v || b) (or-none (eqb (c / 2) v))
 
 -- the first i literals are marked
 pub record Marking (words t here : List ℕ) (i : ℕ) : Type 0 where
@@ -84,36 +87,29 @@ cleared t n e k = ap (λ xs. get_or xs k 0) e ∙ get_or-zeros n k
     get_or-zeros (suc n) zero = refl
     get_or-zeros (suc n) (suc k) = get_or-zeros n k
 
--- the clauses before i are marked
-pub record MarkingAll (list t here : List ℕ) (i : ℕ) : Type 0 where
+-- the clauses of `all` are marked, but for those that are left
+pub record MarkingAll (all left : List (List ℕ)) (t here : List ℕ) : Type 0 where
   pub so_far : ℕ → Bool
   pub size : length here ≡ length t
-  pub good : well (length t - 1) (drop i list) ≡ true
+  pub good : goods (length t - 1) left ≡ true
   pub marks : Marks so_far here
-  pub left : (v : ℕ) → (so_far v || occurs (read (drop i list)) v) ≡ occurs (read list) v
+  pub rest : (v : ℕ) → (so_far v || occurs left v) ≡ occurs all v
 
-pub marking_all_none : (list t here : List ℕ) → length here ≡ length t → well (length t - 1) list ≡ true → ((k : ℕ) → k < length here → get_or here k 0 ≡ 0) → MarkingAll list t here 0
-marking_all_none list t here e h z = record { so_far = λ _. false; size = e; good = h; marks = record { each = z }; left = λ v. refl }
+pub marking_all_none : (all : List (List ℕ)) (t here : List ℕ) → length here ≡ length t → goods (length t - 1) all ≡ true → ((k : ℕ) → k < length here → get_or here k 0 ≡ 0) → MarkingAll all all t here
+marking_all_none all t here e h z = record { so_far = λ _. false; size = e; good = h; marks = record { each = z }; rest = λ v. refl }
 
-pub marking_all_more : (list t here after : List ℕ) (i : ℕ) → i < length list → length after ≡ length t → (w : MarkingAll list t here i)
-    → ((f : ℕ → Bool) → Marks f here → Marks (or f (mentions (take (i + 1 + get_or list i 0 - (i + 1)) (drop (i + 1) list)))) after)
-    → MarkingAll list t after (i + 1 + get_or list i 0)
-marking_all_more list t here after i l e w h =
-    let z : i + 1 + get_or list i 0 - (i + 1) ≡ get_or list i 0 = omega arith in
-    let p = ap (λ x. take x (drop (i + 1) list)) z in
-    record {
-      so_far = or w.so_far (mentions (take (i + 1 + get_or list i 0 - (i + 1)) (drop (i + 1) list)));
-      size = e;
-      good = (clause_here (length t - 1) list i l w.good).good;
-      marks = h w.so_far w.marks;
-      left = λ v. or_move (w.so_far v) (mentions (take (i + 1 + get_or list i 0 - (i + 1)) (drop (i + 1) list)) v) (occurs (read (drop (i + 1 + get_or list i 0) list)) v)
-          ∙ ap (λ b. w.so_far v || b) (ap (λ xs. mentions xs v || occurs (read (drop (i + 1 + get_or list i 0) list)) v) p ∙ sym (ap (λ xs. occurs xs v) (read_more list i l)))
-          ∙ w.left v;
-    }
+pub marking_all_more : (all left rest : List (List ℕ)) (c t here after : List ℕ) → left ≡ c ∷ rest → length after ≡ length t → MarkingAll all left t here
+    → ((f : ℕ → Bool) → Marks f here → Marks (or f (mentions c)) after) → MarkingAll all rest t after
+marking_all_more all left rest c t here after e l w h = record {
+  so_far = or w.so_far (mentions c);
+  size = l;
+  good = (first_good (length t - 1) left rest c e w.good).rest;
+  marks = h w.so_far w.marks;
+  rest = λ v. or_move (w.so_far v) (mentions c v) (occurs rest v) ∙ ap (λ cs. w.so_far v || occurs cs v) (sym e) ∙ w.rest v;
+}
 
-pub marking_all_done : (list t here : List ℕ) (i : ℕ) → length list ≤ i → MarkingAll list t here i → Marks (occurs (read list)) here
-marking_all_done list t here i l w =
-    marks_same w.so_far _ here (λ v. sym (or-none (w.so_far v)) ∙ ap (λ xs. w.so_far v || occurs xs v) (sym (ap read (drop_all i list l) ∙ read-nil)) ∙ w.left v) w.marks
+pub marking_all_done : (all left : List (List ℕ)) (t here : List ℕ) → left ≡ [] → MarkingAll all left t here → Marks (occurs all) here
+marking_all_done all left t here e w = marks_same w.so_far _ here (λ v. sym (or-none (w.so_far v)) ∙ ap (λ cs. w.so_far v || occurs cs v) (sym e) ∙ w.rest v) w.marks
 
 bit_one : (b : Bool) → ◌≡◌ {A = ℕ} (cond b 1 0) 1 → b ≡ true
 bit_one true e = refl
@@ -188,6 +184,45 @@ module _ (f : ℕ → Bool) (rank old : List ℕ) where
               (λ (e : k ≡ m + 1 → ⊥). rw (oo k e, oo j (λ z. omega arith)) (s.rising j k i (omega arith))) (cases_eq k (m + 1));
         }
 
+-- numbering from the constant on, which is not marked
+pub record Numbering (marks first rank old : List ℕ) (v m : ℕ) : Type 0 where
+  pub size : length old ≡ length rank
+  pub zero : get_or rank 0 0 ≡ 0
+  pub start : v ≡ 0 → (rank ≡ marks) × (old ≡ first) × (m ≡ 0)
+  pub few : 0 < v → m < v
+  pub done : 0 < v → (f : ℕ → Bool) → Marks f marks → Numbered f rank old v m
+
+module _ (marks first rank old : List ℕ) (v m : ℕ) (s : Numbering marks first rank old v m) (l : v < length rank) where
+  pub numbering_skip : get_or first 0 0 ≡ 0 → (get_or rank v 0 ≡ 1 → ⊥) → Numbering marks first rank old (v + 1) m
+  numbering_skip z n = record {
+    size = s.size;
+    zero = s.zero;
+    start = λ e. absurd (omega arith);
+    few = λ _. ⊎_elim (λ (e : v ≡ 0). let q = (s.start e).2 in omega arith) (λ (e : v ≡ 0 → ⊥). let q = s.few (omega arith) in omega arith) (cases_eq v 0);
+    done = λ _ f h. ⊎_elim
+        (λ (e : v ≡ 0).
+        let b = s.start e in
+        rw (e, b.2) (numbered_none f rank old (subst (Marks f) (sym b.0) h) s.zero (omega arith) (ap (λ xs. get_or xs 0 0) b.1 ∙ z)))
+        (λ (e : v ≡ 0 → ⊥). numbered_skip f rank old v m (s.done (omega arith) f h) l n) (cases_eq v 0);
+  }
+
+  pub numbering_more : get_or rank v 0 ≡ 1 → (x y : ℕ) → x ≡ m + 1 → y ≡ v → Numbering marks first (set rank v x) (set old (m + 1) y) (v + 1) (m + 1)
+  numbering_more n x y p q =
+      let o : 1 ≤ v = ⊎_elim (λ (e : v ≡ 0). let z = ap (λ w. get_or rank w 0) e in let t = s.zero in absurd (omega arith)) (λ (e : v ≡ 0 → ⊥). omega arith) (cases_eq v 0) in
+      let few = s.few (omega arith) in
+      record {
+        size = length-set old (m + 1) y ∙ s.size ∙ sym (length-set rank v x);
+        zero = get_or-set_other rank v 0 x 0 (λ e. omega arith) ∙ s.zero;
+        start = λ e. absurd (omega arith);
+        few = λ _. omega arith;
+        done = λ _ f h. numbered_more f rank old v m (s.done (omega arith) f h) l (sym s.size) o n x y p q;
+      }
+
+  -- there is room for one number more
+  pub numbering_room : get_or rank v 0 ≡ 1 → m + 1 < length old
+  numbering_room n =
+      ⊎_elim (λ (e : v ≡ 0). let z = ap (λ w. get_or rank w 0) e in let t = s.zero in absurd (omega arith)) (λ (e : v ≡ 0 → ⊥). let few = s.few (omega arith) in omega (arith, s.size)) (cases_eq v 0)
+
 -- what occurs is a variable from 1 to n
 mentions_within : (n : ℕ) (c : List ℕ) (v : ℕ) → inside n c ≡ true → mentions c v ≡ true → (1 ≤ v) × (v ≤ n)
 mentions_within n [] v h e = absurd (both_ways false refl e)
@@ -223,22 +258,37 @@ renumbers cs n m rank old g s = record {
   rising = s.rising;
 }
 
--- the first s literals are written
-pub record Shifting (f : ℕ → ℕ) (list work here : List ℕ) (at k s : ℕ) : Type 0 where
-  pub size : length here ≡ length work
-  pub words : take (at + s) here ≡ take at work ++ map (moved f) (take s (take k (drop at list)))
+-- the first s literals of a clause are renumbered
+pub record Shifting (f : ℕ → ℕ) (clause here : List ℕ) (s : ℕ) : Type 0 where
+  pub size : length here ≡ length clause
+  pub done : take s here ≡ map (moved f) (take s clause)
+  pub rest : drop s here ≡ drop s clause
 
-pub shifting_none : (f : ℕ → ℕ) (list work : List ℕ) (at k : ℕ) → Shifting f list work work at k 0
-shifting_none f list work at k = let z : at + 0 ≡ at = omega arith in record { size = refl; words = ap (λ x. take x work) z ∙ sym (append-nil (take at work)) }
+module _ (f : ℕ → ℕ) (clause here : List ℕ) (s : ℕ) (w : Shifting f clause here s) where
+  pub shifting_here : s < length here → get_or here s 0 ≡ get_or clause s 0
+  shifting_here l =
+      let z : s + 0 ≡ s = omega arith in
+      ap (λ i. get_or here i 0) (sym z) ∙ sym (get_or-drop s here 0 0) ∙ ap (λ xs. get_or xs 0 0) w.rest ∙ get_or-drop s clause 0 0 ∙ ap (λ i. get_or clause i 0) z
 
-literal_is : (list : List ℕ) (at k s : ℕ) → s < k → get_or list (at + s) 0 ≡ get_or (take k (drop at list)) s 0
-literal_is list at k s l = sym (get_or-drop at list s 0) ∙ sym (get_or-take k (drop at list) s 0 l)
+  pub shifting_more : s < length here → (u : ℕ) → u ≡ get_or here s 0 / 2 → Shifting f clause (set here s (2 * f u + get_or here s 0 % 2)) (s + 1)
+  shifting_more l u q =
+      let c : ℕ = get_or here s 0 in
+      let e = shifting_here l in
+      rw q record {
+        size = length-set here s (2 * f (c / 2) + c % 2) ∙ w.size;
+        done = take_more_set here s (2 * f (c / 2) + c % 2) l ∙ ap (λ xs. xs ++ (2 * f (c / 2) + c % 2) ∷ []) w.done
+            ∙ ap (λ x. map (moved f) (take s clause) ++ x ∷ []) (moved_is f c ∙ ap (moved f) e) ∙ sym (map_more (moved f) clause s 0 (omega (arith, w.size)));
+        rest = drop-set-lt (s + 1) here s (2 * f (c / 2) + c % 2) (omega arith) ∙ sym (drop-drop 1 s here) ∙ ap (drop 1) w.rest ∙ drop-drop 1 s clause;
+      }
 
-pub shift_named : (m : ℕ) (list : List ℕ) (at k s : ℕ) → s < k → at + k ≤ length list → inside m (take k (drop at list)) ≡ true → (1 ≤ get_or list (at + s) 0 / 2) × (get_or list (at + s) 0 / 2 ≤ m)
-shift_named m list at k s l b h =
-    let n = length-take-le k (drop at list) (omega (arith, length-drop at list)) in
-    let q = inside_at m (take k (drop at list)) s (omega arith) h in
-    let e = literal_is list at k s l in
+  pub shifting_all : length here ≤ s → here ≡ map (moved f) clause
+  shifting_all l = sym (take_all s here l) ∙ w.done ∙ ap (map (moved f)) (take_all s clause (omega (arith, w.size)))
+
+-- a literal that is still to be renumbered is of a variable from 1 to m
+pub shifting_named : (f : ℕ → ℕ) (m : ℕ) (clause here : List ℕ) (s : ℕ) → Shifting f clause here s → s < length here → inside m clause ≡ true → (1 ≤ get_or here s 0 / 2) × (get_or here s 0 / 2 ≤ m)
+shifting_named f m clause here s w l h =
+    let q = inside_at m clause s (omega (arith, w.size)) h in
+    let e = shifting_here f clause here s w l in
     (omega arith, omega arith)
   where
     inside_at : (m : ℕ) (xs : List ℕ) (i : ℕ) → i < length xs → inside m xs ≡ true → (1 ≤ get_or xs i 0 / 2) × (get_or xs i 0 / 2 ≤ m)
@@ -246,60 +296,38 @@ shift_named m list at k s l b h =
     inside_at m (x ∷ xs) zero l h = let a : 2 ≤ x = grind (arith, nat_tests) in let b : x ≤ 2 * m + 1 = grind (arith, nat_tests) in (omega arith, omega arith)
     inside_at m (x ∷ xs) (suc i) l h = inside_at m xs i (omega arith) (grind (arith, nat_tests))
 
-pub shifting_more : (f : ℕ → ℕ) (list work here : List ℕ) (at k s : ℕ) → s < k → at + k ≤ length list → at + k ≤ length work → Shifting f list work here at k s
-    → (u : ℕ) → u ≡ get_or list (at + s) 0 / 2 → Shifting f list work (set here (at + s) (2 * f u + get_or list (at + s) 0 % 2)) at k (s + 1)
-shifting_more f list work here at k s l b d w u q =
-    let c : ℕ = get_or list (at + s) 0 in
-    let n = length-take-le k (drop at list) (omega (arith, length-drop at list)) in
-    let z : at + (s + 1) ≡ at + s + 1 = omega arith in
-    let e = literal_is list at k s l in
-    rw q record {
-      size = length-set here (at + s) (2 * f (c / 2) + c % 2) ∙ w.size;
-      words =
-          ap (λ x. take x (set here (at + s) (2 * f (c / 2) + c % 2))) z
-          ∙ take_more_set here (at + s) (2 * f (c / 2) + c % 2) (omega (arith, w.size))
-          ∙ ap (λ xs. xs ++ (2 * f (c / 2) + c % 2) ∷ []) w.words
-          ∙ append_assoc (take at work) (map (moved f) (take s (take k (drop at list)))) ((2 * f (c / 2) + c % 2) ∷ [])
-          ∙ ap (λ x. take at work ++ (map (moved f) (take s (take k (drop at list))) ++ x ∷ [])) (moved_is f c ∙ ap (moved f) e)
-          ∙ ap (λ xs. take at work ++ xs) (sym (map_more (moved f) (take k (drop at list)) s 0 (omega arith)));
-    }
-
-pub shifting_all : (f : ℕ → ℕ) (list work here : List ℕ) (at k s : ℕ) → k ≤ s → s ≤ k → Shifting f list work here at k s → Shifts f list work here at k
-shifting_all f list work here at k s l i w =
-    let e : s ≡ k = omega arith in
-    record { size = w.size; words = ap (λ x. take (at + x) here) (sym e) ∙ w.words ∙ ap (λ x. take at work ++ map (moved f) x) (ap (λ x. take x (take k (drop at list))) e ∙ take-take k k (drop at list) (omega arith)) }
-
--- the clauses before i are written
-pub record Writing (f : ℕ → ℕ) (m : ℕ) (list work here : List ℕ) (i : ℕ) : Type 0 where
+-- the clauses of `all` are written up to the place `at`, but for those that are left
+pub record Writing (f : ℕ → ℕ) (m : ℕ) (all left : List (List ℕ)) (work here : List ℕ) (at : ℕ) : Type 0 where
   pub size : length here ≡ length work
-  pub inner : i ≤ length list
-  pub good : well m (drop i list) ≡ true
-  pub words : take i here ++ encode (renamed f (read (drop i list))) ≡ encode (renamed f (read list))
+  pub room : at + length (encode left) ≡ length (encode all)
+  pub fits : length (encode all) ≤ length work
+  pub good : goods m left ≡ true
+  pub words : take at here ++ encode (renamed f left) ≡ encode (renamed f all)
 
-pub writing_none : (f : ℕ → ℕ) (m : ℕ) (list work : List ℕ) → well m list ≡ true → Writing f m list work work 0
-writing_none f m list work h = record { size = refl; inner = omega arith; good = h; words = refl }
+module _ (f : ℕ → ℕ) (m : ℕ) (all left : List (List ℕ)) (work here : List ℕ) (at : ℕ) (w : Writing f m all left work here at) where
+  -- the words of the next clause: its count is written, then its literals
+  pub writing_more : (rest : List (List ℕ)) (c ys : List ℕ) (j end : ℕ) → left ≡ c ∷ rest → j ≡ length c → ys ≡ map (moved f) c → end ≡ at + 1 + length c
+      → Writing f m all rest work (put_mid (at + 1) j (set here at (length c)) ys) end
+  writing_more rest c ys j end e z t q =
+      let k : ℕ = length c in
+      let xs : List ℕ = set here at k in
+      let ly : length ys ≡ k = ap length t ∙ length-map c (moved f) in
+      let room : end + length (encode rest) ≡ length (encode all) = omega (arith, w.room, ap (λ cs. length (encode cs)) e, length-append c (encode rest)) in
+      let fits = w.fits in
+      let here_size = w.size in
+      let lx : length xs ≡ length here = length-set here at k in
+      let lt : length (take (at + 1) xs) ≡ at + 1 = length-take-le (at + 1) xs (omega arith) in
+      let front : take (at + 1) xs ≡ take at here ++ k ∷ [] = take_more_set here at k (omega arith) in
+      let written : take end (put_mid (at + 1) j xs ys) ≡ take at here ++ k ∷ ys =
+          take-put_mid (at + 1) j xs ys end (omega arith) (omega arith) ∙ ap (λ zs. zs ++ ys) front ∙ append_assoc (take at here) (k ∷ []) ys in
+      record {
+        size = omega (arith, length-append (take (at + 1) xs) (ys ++ drop j (drop (at + 1) xs)), length-append ys (drop j (drop (at + 1) xs)), length-drop j (drop (at + 1) xs), length-drop (at + 1) xs);
+        room = room;
+        fits = w.fits;
+        good = (first_good m left rest c e w.good).rest;
+        words = ap (λ zs. zs ++ encode (renamed f rest)) written ∙ append_assoc (take at here) (k ∷ ys) (encode (renamed f rest))
+            ∙ ap (λ x. take at here ++ x ∷ (ys ++ encode (renamed f rest))) (sym ly) ∙ ap (λ zs. take at here ++ length zs ∷ (zs ++ encode (renamed f rest))) t ∙ ap (λ cs. take at here ++ encode (renamed f cs)) (sym e) ∙ w.words;
+      }
 
-pub writing_more : (f : ℕ → ℕ) (m : ℕ) (list work here after : List ℕ) (i : ℕ) → i < length list → length list ≤ length work → Writing f m list work here i
-    → Shifts f list (set here i (get_or list i 0)) after (i + 1) (get_or list i 0) → Writing f m list work after (i + 1 + get_or list i 0)
-writing_more f m list work here after i l b w r =
-    let k : ℕ = get_or list i 0 in
-    let c = clause_here m list i l w.good in
-    let body : List ℕ = take k (drop (i + 1) list) in
-    let rest : List (List ℕ) = renamed f (read (drop (i + 1 + k) list)) in
-    let ln : k ≡ length (map (moved f) body) = sym (length-map body (moved f) ∙ length-take-le k (drop (i + 1) list) (omega (arith, length-drop (i + 1) list, c.fits))) in
-    record {
-      size = r.size ∙ length-set here i k ∙ w.size;
-      inner = c.fits;
-      good = c.good;
-      words =
-          ap (λ xs. xs ++ encode rest) (r.words ∙ ap (λ xs. xs ++ map (moved f) body) (take_more_set here i k (omega (arith, w.size))) ∙ append_assoc (take i here) (k ∷ []) (map (moved f) body))
-          ∙ append_assoc (take i here) (k ∷ map (moved f) body) (encode rest)
-          ∙ ap (λ x. take i here ++ x ∷ (map (moved f) body ++ encode rest)) ln
-          ∙ ap (λ x. take i here ++ encode (renamed f x)) (sym (read_more list i l))
-          ∙ w.words;
-    }
-
-pub writing_all : (f : ℕ → ℕ) (m : ℕ) (list work here : List ℕ) (i : ℕ) → length list ≤ i → Writing f m list work here i → take (length list) here ≡ encode (renamed f (read list))
-writing_all f m list work here i l w =
-    let e : length list ≡ i = omega (arith, w.inner) in
-    ap (λ x. take x here) e ∙ sym (append-nil (take i here)) ∙ ap (λ x. take i here ++ encode (renamed f x)) (sym (ap read (drop_all i list l) ∙ read-nil)) ∙ w.words
+  pub writing_all : left ≡ [] → take at here ≡ encode (renamed f all)
+  writing_all e = sym (append-nil (take at here)) ∙ ap (λ cs. take at here ++ encode (renamed f cs)) (sym e) ∙ w.words

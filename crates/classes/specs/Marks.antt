@@ -24,11 +24,6 @@ pub record Numbered (f : ℕ → Bool) (rank old : List ℕ) (v m : ℕ) : Type 
   pub from : (k : ℕ) → 1 ≤ k → k ≤ m → (slice_index rank (slice_index old k) ≡ k) × (slice_index old k < v) × (f (slice_index old k) ≡ true)
   pub rising : (j k : ℕ) → j < k → k ≤ m → slice_index old j < slice_index old k
 
--- the k words at `at` are those of the list, moved
-pub record Shifts (f : ℕ → ℕ) (list work after : List ℕ) (at k : ℕ) : Type 0 where
-  pub size : length after ≡ length work
-  pub words : take (at + k) after ≡ take at work ++ map (moved f) (take k (drop at list))
-
 -- what renumbering leaves
 pub record Renumbered (list work rank old : List ℕ) (n m : ℕ) : Type 0 where
   pub tables : Renumbers (read list) n m (by rank) (by old)

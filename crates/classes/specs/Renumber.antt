@@ -1,5 +1,6 @@
 -- A clause list with its variables renumbered, and a sheet under a new table. Assumes nothing.
 use Rattle.std.specs.Prelude.{◌≡◌, ℕ, zero, suc, ◌+◌, ◌*◌, ◌/◌, ◌<◌, ◌≤◌, Bool, true, false, cond, ◌||◌, ◌↔◌, List, [], ◌∷◌, map, length, ◌==◌, slice_index}
+use Rattle.std.specs.List.{list_any}
 use Rattle.cnf.specs.Truth.{lit, Model}
 use Rattle.cnf.specs.Words.{goods}
 use Rattle.cnf.specs.Table.{turn, rep, by, applieds}
@@ -7,13 +8,11 @@ use Rattle.cnf.specs.Finite.{lowest}
 
 -- whether a clause has a literal of the variable
 abbrev pub mentions : List ℕ → ℕ → Bool
-mentions [] v = false
-mentions (c ∷ cs) v = c / 2 == v || mentions cs v
+mentions cs v = list_any (λ c. c / 2 == v) cs
 
 -- whether some clause has a literal of the variable
 abbrev pub occurs : List (List ℕ) → ℕ → Bool
-occurs [] v = false
-occurs (c ∷ cs) v = mentions c v || occurs cs v
+occurs cs v = list_any (λ c. mentions c v) cs
 
 -- how many numbers below v have f
 abbrev pub below : (ℕ → Bool) → ℕ → ℕ

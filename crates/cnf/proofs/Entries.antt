@@ -1,10 +1,9 @@
 -- A table's facts by its entries, and the table in which each literal represents itself. Assumes nothing.
-use Rattle.std.proofs.Common.{◌≡◌, ℕ, zero, suc, ◌+◌, ◌-◌, ◌*◌, ◌/◌, ◌%◌, ◌<◌, ◌≤◌, Bool, true, false, cond, eqb, List, length, get_or, Some, None, vec_items, Option, unwrap_or, sym, refl, ap, ◌∙◌, inl, inr, arith, Bor}
+use Rattle.std.proofs.Common.{◌≡◌, ℕ, zero, suc, ◌+◌, ◌-◌, ◌*◌, ◌/◌, ◌%◌, ◌<◌, ◌≤◌, Bool, true, false, cond, eqb, List, length, get_or, Some, None, Option, unwrap_or, sym, refl, ap, ◌∙◌, inl, inr, arith, Bor}
 use Rattle.std.specs.Option.{option_map}
 use Rattle.std.specs.Slice.{IsGetResult}
 use Rattle.std.proofs.lemmas.List.{get_or_past, get_or_read}
 use Rattle.std.proofs.lemmas.Bool.{cases_eq, eq-eqb, ne_eqb}
-use Rattle.cnf.specs.declared.table.Table.{Table}
 use Rattle.cnf.specs.Truth.{opp, told}
 use Rattle.cnf.specs.Table.{turn, rep, Tabled, fresh_from, fresh}
 
@@ -104,7 +103,3 @@ fresh_tabled n = tabled_from_entries (fresh n) (record { constant = fresh_entry 
 
     own : (v : ℕ) → v < length (fresh n) → rep (fresh n) (get_or (fresh n) v 0) ≡ get_or (fresh n) v 0
     own v h = ap (rep (fresh n)) (at v h) ∙ rep_even (fresh n) v
-
--- every table that exists has the facts
-pub table_tabled : (t : Table) → Tabled (vec_items t.entries)
-table_tabled t = record { constants = t.constants; opposites = t.opposites; lower = t.lower; itself = t.itself }

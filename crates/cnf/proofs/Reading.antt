@@ -1,7 +1,7 @@
 -- Words and the clauses that they are. Assumes nothing.
 use Rattle.std.proofs.Common.{◌≡◌, ℕ, zero, suc, ◌+◌, ◌-◌, ◌<◌, ◌≤◌, min, true, false, ◌&&◌, leb, List, [], ◌∷◌, ◌++◌, length, get_or, take, drop, sym, refl, ap, ◌∙◌, inl, inr, arith, length-drop}
 use native.Mathlib.Nat.{min-eq_left, min-eq_right}
-use Rattle.std.proofs.lemmas.List.{drop_more, drop-drop, drop_all, take_all, take_at, drop_at, take-append-drop, length-take-le, length-append}
+use Rattle.std.proofs.lemmas.List.{drop_more, drop-drop, drop_all, take_all, take_at, drop_at, take_min, drop_min, take-append-drop, length-take-le, length-append}
 use Rattle.std.proofs.lemmas.Bool.{and_parts, and_from, leb-true, le-leb, false≢true, cases_lt}
 use Rattle.std.proofs.lemmas.Bool.Decides.{nat_tests}
 use Rattle.cnf.specs.Truth.{inside}
@@ -21,6 +21,15 @@ read-nil = refl
 pub read-cons : (n : ℕ) (ws : List ℕ) → read (n ∷ ws) ≡ take n ws ∷ read (drop n ws)
 unfolding read_from
 read-cons n ws = ap (λ r. take n ws ∷ r) (read_skip n ws)
+
+-- a walk's end and its step
+pub read_none : (ws : List ℕ) → length ws ≡ 0 → read ws ≡ []
+read_none ws e = ap read (drop_all 0 ws (omega arith)) ∙ read-nil
+
+pub read_first : (ws : List ℕ) (n k : ℕ) (rest front back : List ℕ) → ws ≡ n ∷ rest → k ≡ min n (length rest) → front ≡ take k rest → back ≡ drop k rest → read ws ≡ front ∷ read back
+read_first ws n k rest front back e m f b =
+    ap read e ∙ read-cons n rest ∙ ap (λ x. x ∷ read (drop n rest)) (sym (f ∙ ap (λ i. take i rest) m ∙ take_min n rest))
+    ∙ ap (λ x. front ∷ read x) (sym (b ∙ ap (λ i. drop i rest) m ∙ drop_min n rest))
 
 -- a loop's step
 pub read_more : (ws : List ℕ) (i : ℕ) → i < length ws → read (drop i ws) ≡ take (get_or ws i 0) (drop (i + 1) ws) ∷ read (drop (i + 1 + get_or ws i 0) ws)
@@ -88,6 +97,18 @@ well-encode m (c ∷ cs) e =
     (well_skip_is m (length c) (c ++ encode cs) (omega (arith, length-append c (encode cs)))
     ∙ ap (well m) (drop_at c (encode cs) (length c) refl) ∙ well-encode m cs p.1)
 
+-- the first clause of a list that may stand, and the rest
+pub record FirstGood (m : ℕ) (c : List ℕ) (left : List (List ℕ)) : Type 0 where
+  pub short : length c ≤ 64
+  pub known : inside m c ≡ true
+  pub rest : goods m left ≡ true
+
+pub first_good : (m : ℕ) (all rest : List (List ℕ)) (c : List ℕ) → all ≡ c ∷ rest → goods m all ≡ true → FirstGood m c rest
+first_good m all rest c e h =
+    let p = and_parts (good m c) (goods m rest) (ap (goods m) (sym e) ∙ h) in
+    let q = and_parts (leb (length c) 64) (inside m c) p.0 in
+    record { short = leb-true _ _ q.0; known = q.1; rest = p.1 }
+
 pub written-well : WrittenWell
 written-well m cs e = (read-encode cs, well-encode m cs e)
 
@@ -101,27 +122,19 @@ pub well-nil : (m : ℕ) → well m [] ≡ true
 unfolding well_from
 well-nil m = refl
 
--- a walk's step over the words of a list, from the place of a count on
-module _ (m : ℕ) (ws : List ℕ) (i : ℕ) (h : i < length ws) where
-  well_here : well m (drop i ws) ≡ ((leb (get_or ws i 0) 64 && inside m (take (get_or ws i 0) (drop (i + 1) ws))) && well_from m (get_or ws i 0) (drop (i + 1) ws))
+-- a list by its first count and the words behind it
+module _ (m n : ℕ) (ws : List ℕ) where
+  pub well_long : 64 < n → well m (n ∷ ws) ≡ false
   unfolding well_from
-  well_here = ap (well m) (drop_more ws i 0 h)
+  well_long l = grind (arith, nat_tests)
 
-  pub well_long : 64 < get_or ws i 0 → well m (drop i ws) ≡ false
-  well_long l = let e = well_here in grind (arith, nat_tests)
+  pub well_less : length ws < n → well m (n ∷ ws) ≡ false
+  unfolding well_from
+  well_less l = let s = well-short m n ws l in grind (arith, nat_tests)
 
-  pub well_less : length ws < i + 1 + get_or ws i 0 → well m (drop i ws) ≡ false
-  well_less l = let e = well_here in let s = well-short m (get_or ws i 0) (drop (i + 1) ws) (omega (arith, length-drop (i + 1) ws)) in grind arith
-
-  -- the clause's literals as code takes them
-  pub well_more : get_or ws i 0 ≤ 64 → i + 1 + get_or ws i 0 ≤ length ws
-      → well m (drop i ws) ≡ (inside m (take (i + 1 + get_or ws i 0 - (i + 1)) (drop (i + 1) ws)) && well m (drop (i + 1 + get_or ws i 0) ws))
-  well_more l b =
-      let n : ℕ = get_or ws i 0 in
-      let z : i + 1 + n - (i + 1) ≡ n = omega arith in
-      let r = well_skip_is m n (drop (i + 1) ws) (omega (arith, length-drop (i + 1) ws)) ∙ ap (well m) (drop-drop n (i + 1) ws) in
-      well_here ∙ ap (λ x. (x && inside m (take n (drop (i + 1) ws))) && well_from m n (drop (i + 1) ws)) (le-leb n 64 l)
-      ∙ ap (λ x. inside m (take n (drop (i + 1) ws)) && x) r ∙ ap (λ x. inside m (take x (drop (i + 1) ws)) && well m (drop (i + 1 + n) ws)) (sym z)
+  pub well_more : n ≤ 64 → n ≤ length ws → well m (n ∷ ws) ≡ (inside m (take n ws) && well m (drop n ws))
+  unfolding well_from
+  well_more l b = ap (λ x. (x && inside m (take n ws)) && well_from m n ws) (le-leb n 64 l) ∙ ap (λ x. inside m (take n ws) && x) (well_skip_is m n ws b)
 
 -- the clause at i, which ends with the list where its count goes beyond, and the rest
 pub record ClauseAt (ws : List ℕ) (i end : ℕ) : Type 0 where

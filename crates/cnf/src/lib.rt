@@ -3,6 +3,7 @@
 
 pub mod kind;
 pub mod laws;
+pub mod limits;
 pub mod literal;
 pub mod open;
 pub mod table;

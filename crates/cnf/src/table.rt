@@ -1,17 +1,14 @@
 // The representative table: entry v is the representative of the literal 2v.
 ghost use Rattle.std.specs.Prelude.{◌≡◌, ℕ, ◌+◌, ◌/◌, ◌<◌, ◌≤◌, length, IfOk, vec_len, MatchResult};
-ghost use Rattle.cnf.specs.Truth.{opp};
-ghost use Rattle.cnf.specs.Table.{rep, fresh, looked, kind_at};
+ghost use Rattle.cnf.specs.Table.{rep, fresh, looked, kind_at, Tabled};
 ghost use Rattle.cnf.specs.Open.{Refuses};
 
 use crate::kind::Kind;
+use crate::limits::MAX_NETS;
 use crate::literal::{opposite, variable};
 use crate::open::OpenError;
 use faults::SheetFault;
 use std::alloc::Global;
-
-// The most nets that a table, or what is built on one, holds.
-pub const MAX_NETS: usize = 2000;
 
 // The representative of a literal by the entries of a table; beyond them the constants stand in.
 pub fn representative(entries: &[u16], code: u16) -> u16
@@ -40,11 +37,9 @@ pub fn own_entries(heap: Global, nets: usize) -> Result<Vec<u16>, OpenError>
 #[derive(Drop)]
 pub struct Table {
     entries: Vec<u16>,
-    ghost constants: { (c : ℕ) → c < 2 → rep entries.items c ≡ c },
-    ghost opposites: { (c : ℕ) → rep entries.items (opp c) ≡ opp (rep entries.items c) },
-    ghost lower: { (c : ℕ) → c / 2 < length entries.items → rep entries.items c / 2 ≤ c / 2 },
-    ghost itself: { (c : ℕ) → c / 2 < length entries.items → rep entries.items (rep entries.items c) ≡ rep entries.items c },
-    ghost size: { (1 ≤ vec_len entries) × (vec_len entries ≤ 2001) },
+    ghost tabled: { Tabled entries.items },
+    ghost some: { 1 ≤ vec_len entries },
+    ghost few: { vec_len entries ≤ 2001 },
 }
 
 impl Table {

@@ -1,5 +1,5 @@
 use Rattle.classes.proofs.Making.{Marking}
 use Rattle.classes.proofs.renumber.mark.Given as goal
 
-abbrev pub invariant-loop-c : goal.invariant-loop-c
-invariant-loop-c l = Marking l.body l.initial.marks l.marks l.c-index
+abbrev pub invariant-loop-code : goal.invariant-loop-code
+invariant-loop-code l = Marking l.body l.initial.marks l.marks l.code-index

@@ -1,9 +1,6 @@
-use Rattle.std.proofs.Common.{◌-◌, length}
+use Rattle.cnf.specs.Words.{read}
 use Rattle.classes.proofs.Making.{MarkingAll}
 use Rattle.classes.proofs.renumber.mark_all.Given as goal
 
-abbrev pub invariant-loop-i : goal.invariant-loop-i
-invariant-loop-i l = MarkingAll l.list l.initial.marks l.marks l.i
-
-abbrev pub decreases-loop-i : goal.decreases-loop-i
-decreases-loop-i l = length l.list - l.i
+abbrev pub invariant-loop-clause : goal.invariant-loop-clause
+invariant-loop-clause l = MarkingAll (read l.list) (read l.clause-iterator.0.now) l.initial.marks l.marks

@@ -1,10 +1,8 @@
 use Rattle.std.proofs.Common.{◌-◌, length}
+use Rattle.cnf.specs.Words.{read}
 use Rattle.cnf.specs.Table.{by}
 use Rattle.classes.proofs.Making.{Writing}
 use Rattle.classes.proofs.renumber.write.Given as goal
 
-abbrev pub invariant-loop-i : goal.invariant-loop-i
-invariant-loop-i l = Writing (by l.rank) (length l.rank - 1) l.list l.initial.work l.work l.i
-
-abbrev pub decreases-loop-i : goal.decreases-loop-i
-decreases-loop-i l = length l.list - l.i
+abbrev pub invariant-loop-clause : goal.invariant-loop-clause
+invariant-loop-clause l = Writing (by l.rank) (length l.rank - 1) (read l.list) (read l.clause-iterator.0.now) l.initial.work l.work l.at

@@ -8,4 +8,4 @@ invariant_of-result c =
     let made = c.in_ok-entries.ensures in
     let w = subst Tabled (sym made.1) (fresh_tabled c.args.nets) in
     let size = ap length made.1 ∙ fresh-length 0 (c.args.nets + 1) in
-    record { constants = w.constants; opposites = w.opposites; lower = w.lower; itself = w.itself; size = (omega (arith, size), omega (arith, size)) }
+    record { tabled = w; some = omega (arith, size); few = omega (arith, size) }

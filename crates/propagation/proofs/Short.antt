@@ -7,30 +7,20 @@ use Rattle.cnf.proofs.Reading.{ClauseAt}
 use Rattle.propagation.specs.declared.unit.Pending.TheVariants.{Conflict, Forces}
 use Rattle.propagation.specs.Propagate.{pending}
 
-pending-none : (c : List ℕ) (cs : List (List ℕ)) → length c ≡ 0 → pending (c ∷ cs) ≡ Conflict
-pending-none [] cs e = refl
-pending-none (x ∷ xs) cs e = absurd (omega arith)
+-- a list by its first clause
+pub pending_none : (cs rest : List (List ℕ)) (c : List ℕ) → cs ≡ c ∷ rest → length c ≡ 0 → pending cs ≡ Conflict
+pending_none cs rest [] e h = ap pending e
+pending_none cs rest (x ∷ xs) e h = absurd (omega arith)
 
-pending-one : (c : List ℕ) (cs : List (List ℕ)) → length c ≡ 1 → pending (c ∷ cs) ≡ Forces (get_or c 0 0)
-pending-one [] cs e = absurd (omega arith)
-pending-one (x ∷ []) cs e = refl
-pending-one (x ∷ y ∷ xs) cs e = absurd (omega arith)
+pub pending_one : (cs rest : List (List ℕ)) (c : List ℕ) → cs ≡ c ∷ rest → length c ≡ 1 → pending cs ≡ Forces (get_or c 0 0)
+pending_one cs rest [] e h = absurd (omega arith)
+pending_one cs rest (x ∷ []) e h = ap pending e
+pending_one cs rest (x ∷ y ∷ xs) e h = absurd (omega arith)
 
-pending_more : (c : List ℕ) (cs : List (List ℕ)) → 2 ≤ length c → pending (c ∷ cs) ≡ pending cs
-pending_more [] cs h = absurd (omega arith)
-pending_more (x ∷ []) cs h = absurd (omega arith)
-pending_more (x ∷ y ∷ xs) cs h = refl
-
--- a walk's step over the words of a list, by the number of literals of the clause at i
-module _ (ws : List ℕ) (i end : ℕ) (c : ClauseAt ws i end) where
-  pub short_none : end - (i + 1) ≡ 0 → pending (read (drop i ws)) ≡ Conflict
-  short_none e = ap pending c.parts ∙ pending-none _ _ (c.size ∙ e)
-
-  pub short-one : end - (i + 1) ≡ 1 → pending (read (drop i ws)) ≡ Forces (get_or (take (end - (i + 1)) (drop (i + 1) ws)) 0 0)
-  short-one e = ap pending c.parts ∙ pending-one _ _ (c.size ∙ e)
-
-  pub short_more : 2 ≤ end - (i + 1) → pending (read (drop i ws)) ≡ pending (read (drop end ws))
-  short_more h = ap pending c.parts ∙ pending_more (take (end - (i + 1)) (drop (i + 1) ws)) (read (drop end ws)) (omega (arith, c.size))
+pub pending_more : (cs rest : List (List ℕ)) (c : List ℕ) → cs ≡ c ∷ rest → 2 ≤ length c → pending cs ≡ pending rest
+pending_more cs rest [] e h = absurd (omega arith)
+pending_more cs rest (x ∷ []) e h = absurd (omega arith)
+pending_more cs rest (x ∷ y ∷ xs) e h = ap pending e
 
 -- what holds of each list that begins with the one-literal clause, and of each list with one more clause, holds where that clause is found
 pub forces_at : (P : List (List ℕ) → Type 0) (c : ℕ) → ((cs : List (List ℕ)) → P ((c ∷ []) ∷ cs)) → ((d : List ℕ) (cs : List (List ℕ)) → P cs → P (d ∷ cs))

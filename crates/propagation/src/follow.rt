@@ -3,13 +3,8 @@ ghost use Rattle.std.specs.Prelude.{◌≡◌};
 ghost use Rattle.cnf.specs.Table.{by};
 ghost use Rattle.propagation.specs.Follow.{followed, forced};
 
-use cnf::literal::opposite;
+use cnf::literal::{FALSE, TRUE, opposite};
 use cnf::table::representative;
-
-// The literals of the constant.
-const FALSE: u16 = 0;
-
-const TRUE: u16 = 1;
 
 // Replaces each representative by what `news` has for it.
 pub fn follow(news: &[u16], table: &mut [u16])

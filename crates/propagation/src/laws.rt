@@ -2,8 +2,9 @@
 ghost use Rattle.propagation.specs.Laws.{PropagationKeeps, RewritingKeeps, RewritingFollows};
 
 // Propagation and replaced representatives keep the assignments that a store and its table stand for.
-pub fn rewriting_keeps() -> u8
-    ensures { (PropagationKeeps) × ((RewritingKeeps) × (RewritingFollows)) }
+pub fn rewriting_keeps()
+    ensures propagated { PropagationKeeps }
+    ensures kept { RewritingKeeps }
+    ensures followed { RewritingFollows }
 {
-    0
 }

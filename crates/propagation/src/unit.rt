@@ -3,6 +3,8 @@ ghost use Rattle.std.specs.Prelude.{◌≡◌};
 ghost use Rattle.cnf.specs.Words.{read};
 ghost use Rattle.propagation.specs.Propagate.{pending};
 
+use words::clauses::Clauses;
+
 // What the first clause of at most one literal asks for: nothing if there is none, a conflict if it is empty, and otherwise that its literal is true.
 #[derive(Clone, Copy, PartialEq, Eq, Debug)]
 pub enum Pending {
@@ -15,16 +17,12 @@ pub enum Pending {
 pub fn next_pending(list: &[u16]) -> Pending
     ensures { result ≡ pending (read list.now) }
 {
-    let mut i = 0;
-    while i < list.len() {
-        let count = list[i] as usize;
-        let end = i + 1 + count.min(list.len() - i - 1);
-        match &list[i + 1..end] {
+    for clause in Clauses(list) {
+        match clause {
             [] => return Pending::Conflict,
             [only] => return Pending::Forces(*only),
             [_, _, ..] => {}
         }
-        i = end;
     }
     Pending::Nothing
 }

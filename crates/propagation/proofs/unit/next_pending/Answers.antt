@@ -1,31 +1,20 @@
-use Rattle.std.proofs.Common.{◌+◌, sym, ap, ◌∙◌, arith, ltb-false, ltb-true, eqb-true}
+use Rattle.std.proofs.Common.{sym, ap, ◌∙◌, arith, ltb-false}
 use borrow.Author.Tests.{eqb-false}
-use Rattle.std.proofs.lemmas.List.{at_drop_all}
-use Rattle.cnf.specs.Words.{read}
-use Rattle.cnf.proofs.Reading.{clause_at_lem, read-nil}
 use Rattle.propagation.specs.Propagate.{pending}
-use Rattle.propagation.proofs.Short.{short_none, short-one, short_more}
+use Rattle.propagation.proofs.Short.{pending_none, pending_one, pending_more}
 use Rattle.propagation.proofs.unit.next_pending.Goals as goal
 
 pub returns-in-empty : goal.returns-in-empty
-returns-in-empty c =
-    let p = clause_at_lem c.args.list.now c.loop-i.i (c.loop-i.i + 1 + c.min.result) c.loop-i-test.true (ap (λ x. c.loop-i.i + 1 + x) c.min.ensures) in
-    let e = sym c.loop-i.invariant ∙ short_none _ _ _ p (omega (arith, p.size, ltb-true, eqb-true)) in
-    rw e
+returns-in-empty c = sym (sym c.loop-clause.invariant ∙ pending_none _ _ _ c.in-Some.ensures.steps (omega arith))
 
 pub returns-in-len1 : goal.returns-in-len1
-returns-in-len1 c =
-    let p = clause_at_lem c.args.list.now c.loop-i.i (c.loop-i.i + 1 + c.min.result) c.loop-i-test.true (ap (λ x. c.loop-i.i + 1 + x) c.min.ensures) in
-    let e = sym c.loop-i.invariant ∙ short-one _ _ _ p (omega (arith, p.size, ltb-true, ltb-false, eqb-true, eqb-false)) in
-    rw e
+returns-in-len1 c = sym (sym c.loop-clause.invariant ∙ pending_one _ _ _ c.in-Some.ensures.steps (omega arith))
 
-pub loop-i-preserved : goal.loop-i-preserved
-loop-i-preserved c =
-    let p = clause_at_lem c.args.list.now c.loop-i.i (c.loop-i.i + 1 + c.min.result) c.loop-i-test.true (ap (λ x. c.loop-i.i + 1 + x) c.min.ensures) in
-    let e = sym (short_more _ _ _ p (omega (arith, p.size, ltb-true, ltb-false, eqb-false))) ∙ c.loop-i.invariant in
-    rw e
+pub loop-clause-preserved : goal.loop-clause-preserved
+loop-clause-preserved c = sym (pending_more _ _ _ c.in-Some.ensures.steps (omega (arith, ltb-false, eqb-false))) ∙ c.loop-clause.invariant
 
 pub returns : goal.returns
 returns c =
-    let e = sym c.loop-i.invariant ∙ at_drop_all (λ ws. pending (read ws)) c.args.list.now c.loop-i.i c.loop-i-test.false ∙ ap pending read-nil in
-    rw e
+    let e = ap pending c.in-None.ensures.steps.0 in
+    let i = c.loop-clause.invariant in
+    cc

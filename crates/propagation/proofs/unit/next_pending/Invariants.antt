@@ -1,10 +1,7 @@
-use Rattle.std.proofs.Common.{◌≡◌, ◌-◌, length, drop}
+use Rattle.std.proofs.Common.{◌≡◌}
 use Rattle.cnf.specs.Words.{read}
 use Rattle.propagation.specs.Propagate.{pending}
 use Rattle.propagation.proofs.unit.next_pending.Given as goal
 
-abbrev pub invariant-loop-i : goal.invariant-loop-i
-invariant-loop-i l = pending (read (drop l.i l.list)) ≡ pending (read l.list)
-
-abbrev pub decreases-loop-i : goal.decreases-loop-i
-decreases-loop-i l = length l.list - l.i
+abbrev pub invariant-loop-clause : goal.invariant-loop-clause
+invariant-loop-clause l = pending (read l.clause-iterator.0.now) ≡ pending (read l.list)

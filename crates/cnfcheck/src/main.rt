@@ -3,15 +3,13 @@
 #![tactic(auto)]
 
 use anyhow::anyhow;
+use cnf::limits::MAX_WORDS;
 use dimacs::error::ReadError;
 use dimacs::formula::Formula;
 use search::SearchSolver;
 use solver::Solver;
 use std::env;
 use std::io::Read;
-
-// The words of store space that a sheet uses at most.
-const SPACE: usize = 30_000;
 
 // One byte more than a text may have, so that a text that is too long is seen to be so.
 const MOST_BYTES: u64 = 60_001;
@@ -40,10 +38,10 @@ fn print_model(rt: &HostRuntime, formula: &Formula) -> anyhow::Result<()> {
             println!(rt; "contradiction")?;
             return Ok(());
         }
-        Err(_) => unreachable(),
+        Err(_) => unreachable!(),
     }
-    for v in 1..nets.saturating_add(1) {
-        let bit = if solver.value(v) == Ok(true) { 1 } else { 0 };
+    for v in 1..=nets {
+        let bit = u8::from(solver.value(v) == Ok(true));
         print!(rt; " {bit}")?;
     }
     println!(rt; "")?;
@@ -55,7 +53,7 @@ fn run(rt: &HostRuntime) -> anyhow::Result<()> {
     let heap = rt.alloc();
     let mut text = Vec::new(heap);
     rt.stdin().take(MOST_BYTES).read_to_end(&mut text)?;
-    match dimacs::read(heap, &text, SPACE) {
+    match dimacs::read(heap, &text, MAX_WORDS) {
         Ok(formula) => {
             let nets = formula.nets();
             let clauses = formula.clause_count();

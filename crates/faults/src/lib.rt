@@ -5,6 +5,8 @@ ghost use Rattle.std.specs.Prelude.{◌≡◌};
 ghost use Rattle.faults.specs.Numbers.{number_of, part_of};
 ghost use Rattle.faults.specs.declared.Fault.TheVariants.{Reader, Sheet, Solver, Names};
 
+use std::fmt;
+
 // A fault of a text.
 #[derive(Clone, Copy, PartialEq, Eq, Debug)]
 pub enum ReaderFault {
@@ -49,6 +51,17 @@ pub enum Part {
     OfSheet,
     OfSolver,
     OfNames,
+}
+
+impl fmt::Display for Part {
+    fn fmt<W: fmt::Write>(&self, f: &mut fmt::Formatter<W>) -> fmt::Result {
+        f.write_str(match self {
+            Part::OfReader => "reader",
+            Part::OfSheet => "sheet",
+            Part::OfSolver => "solver",
+            Part::OfNames => "names",
+        })
+    }
 }
 
 // A fault with the part that raised it.

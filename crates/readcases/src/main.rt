@@ -3,18 +3,8 @@
 
 use anyhow::anyhow;
 use dimacs::error::ReadError;
-use faults::Part;
 use std::alloc::Global;
 use std::fs;
-
-fn part_name(part: Part) -> &'static str {
-    match part {
-        Part::OfReader => "reader",
-        Part::OfSheet => "sheet",
-        Part::OfSolver => "solver",
-        Part::OfNames => "names",
-    }
-}
 
 // What reading this text for this store space gives, in a line.
 fn outcome(heap: Global, text: &[u8], space: usize) -> anyhow::Result<String> {
@@ -27,7 +17,7 @@ fn outcome(heap: Global, text: &[u8], space: usize) -> anyhow::Result<String> {
         }
         Err(ReadError::Refused(at)) => {
             let line = at.line;
-            let part = part_name(at.fault.part());
+            let part = at.fault.part();
             let number = at.fault.number();
             Ok(format!(in heap; "line {line} {part} {number}")?)
         }

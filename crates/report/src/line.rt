@@ -1,6 +1,5 @@
 // The bytes of one line: three numbers, each right-justified in six columns, and a line feed.
 ghost use Rattle.std.specs.Prelude.{◌≡◌, ◌*◌, ◌<◌, ◌≤◌};
-ghost use Rattle.cnf.specs.Table.{kind_of};
 ghost use Rattle.report.specs.Lines.{has_digit, place, column as column_of, line as line_of, kind_line};
 
 use cnf::kind::Kind;
@@ -44,23 +43,11 @@ fn column(negative: bool, number: usize) -> [u8; 6]
 pub fn line(first: usize, second: usize, negative: bool, third: usize) -> [u8; 19]
     ensures { result ≡ line_of first second negative third }
 {
-    let [a, b, c, d, e, f] = column(false, first);
-    let [g, h, i, j, k, l] = column(false, second);
-    let [m, n, o, p, q, r] = column(negative, third);
-    [a, b, c, d, e, f, g, h, i, j, k, l, m, n, o, p, q, r, b'\n']
-}
-
-// What the variable v is, if this is its entry in a table.
-pub fn kind_of(v: usize, entry: u16) -> Kind
-    ensures { result ≡ kind_of v entry }
-{
-    if entry % 2 == 0 && entry as usize / 2 == v {
-        Kind::Free
-    } else if entry < 2 {
-        Kind::Fixed(entry == 1)
-    } else {
-        Kind::Tied(entry)
-    }
+    let mut bytes = [b'\n'; 19];
+    bytes[0..6].copy_from_slice(&column(false, first));
+    bytes[6..12].copy_from_slice(&column(false, second));
+    bytes[12..18].copy_from_slice(&column(negative, third));
+    bytes
 }
 
 // The line of the variable v.

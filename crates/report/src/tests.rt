@@ -4,10 +4,7 @@ use faults::{Fault, Located, ReaderFault, SheetFault};
 
 // Whether as many bytes were written, and the space is as it should be.
 fn gave(answer: Result<usize, SheetFault>, n: usize, out: &[u8], bytes: &[u8]) -> bool {
-    match answer {
-        Ok(r) => r == n && out == bytes,
-        Err(_) => false,
-    }
+    answer == Ok(n) && out == bytes
 }
 
 #[test]

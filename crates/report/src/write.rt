@@ -1,7 +1,8 @@
 // Reports at the beginning of a byte space.
 ghost use Rattle.report.specs.Lines.{net_report, contradiction_report, refusal_report, Written};
 
-use crate::line::{kind_line, kind_of, line};
+use crate::line::{kind_line, line};
+use cnf::kind::Kind;
 use faults::{Located, SheetFault};
 
 // The bytes of a line.
@@ -22,15 +23,17 @@ fn write_line(bytes: [u8; 19], out: &mut [u8]) -> Result<usize, SheetFault>
 pub fn write_nets(entries: &[u16], out: &mut [u8]) -> Result<usize, SheetFault>
     ensures { Written (net_report entries.now) out.old out.new result }
 {
-    let nets = entries.len().saturating_sub(1);
-    if out.len() / LINE < nets {
+    let Some((_, nets)) = entries.split_first() else {
+        return Ok(0);
+    };
+    if out.len() / LINE < nets.len() {
         return Err(SheetFault::SpaceShort);
     }
-    for i in 0..nets {
-        let bytes = kind_line(i + 1, kind_of(i + 1, entries[i + 1]));
+    for (i, entry) in nets.iter().enumerate() {
+        let bytes = kind_line(i + 1, Kind::of(i + 1, *entry));
         out[LINE * i..LINE * i + LINE].copy_from_slice(&bytes);
     }
-    Ok(LINE * nets)
+    Ok(LINE * nets.len())
 }
 
 // Writes the report of a contradictory sheet.

@@ -10,6 +10,7 @@ use solver::Solver;
 use solver::assumed::every_true;
 use solver::compare::equal_over;
 use std::alloc::Global;
+use std::fmt;
 use words::eval::satisfied;
 
 // The numbers of a text, parted by spaces.
@@ -32,7 +33,7 @@ fn keeps_model<S: Solver>(
     assumed: &[u16],
 ) -> anyhow::Result<bool> {
     let mut bits = Vec::new(heap);
-    for v in 1..m.saturating_add(1) {
+    for v in 1..=m {
         match solver.value(v) {
             Ok(bit) => bits.push(bit)?,
             Err(_) => return Ok(false),
@@ -51,15 +52,15 @@ enum Said {
     Turned,
 }
 
-impl Said {
-    fn name(self) -> &'static str {
-        match self {
+impl fmt::Display for Said {
+    fn fmt<W: fmt::Write>(&self, f: &mut fmt::Formatter<W>) -> fmt::Result {
+        f.write_str(match self {
             Said::Yes => "yes",
             Said::YesWithoutModel => "yes, and no model is kept",
             Said::Nothing => "none",
             Said::NothingButKept => "none, and something is kept",
             Said::Turned => "refused",
-        }
+        })
     }
 }
 
@@ -169,8 +170,6 @@ fn main(rt: HostRuntime) -> anyhow::Result<()> {
         let assumed = numbers(heap, assumed)?;
         let one = ask(heap, &mut counter, m, &list, &assumed)?;
         let other = ask(heap, &mut searcher, m, &list, &assumed)?;
-        let one = one.name();
-        let other = other.name();
         println!(rt; "{line}: counting {one}, search {other}")?;
     }
     compare_random(&rt, &mut counter, &mut searcher)

@@ -1,19 +1,17 @@
-use Rattle.std.proofs.Common.{◌+◌, ◌-◌, ◌*◌, refl, ap, ◌∙◌, arith}
+use Rattle.std.proofs.Common.{◌≡◌, ℕ, suc, ◌+◌, ◌-◌, ◌*◌, ◌∷◌, get_or, refl, sym, ap, ◌∙◌, arith}
+use Rattle.cnf.specs.Table.{kind_of}
 use Rattle.report.specs.Lines.{kind_line}
-use Rattle.report.proofs.Filling.{length_report, filling_none, filling_more, filling_all}
+use Rattle.report.proofs.Filling.{length_report, filling_more}
 use Rattle.report.proofs.write.write_nets.Goals as goal
 
 pub returns-then-out-nets : goal.returns-then-out-nets
-returns-then-out-nets c = (refl, omega (arith, length_report c.args.entries.now), refl)
-
-pub loop-i-init : goal.loop-i-init
-loop-i-init c = filling_none _ _
+returns-then-out-nets c = (refl, omega (arith, length_report c.args.entries.now, c.in-Some.ensures.cases.1), refl)
 
 pub loop-i-preserved : goal.loop-i-preserved
 loop-i-preserved c =
-    filling_more _ _ _ _ c.loop-i.invariant (omega arith) (omega arith) (19 * c.loop-i.i + 19 - 19 * c.loop-i.i)
-    c.copy_from_slice.new.self (omega arith) (c.copy_from_slice.ensures.after ∙ c.kind_line-bytes.ensures ∙ ap (kind_line (c.loop-i.i + 1)) c.kind_of.ensures)
-
-pub returns : goal.returns
-returns c =
-    (omega (arith, length_report c.args.entries.now), filling_all _ _ _ _ c.loop-i.invariant _ (omega arith) (omega arith))
+    let i : ℕ = c.loop-i.i in
+    let z : suc i ≡ i + 1 = omega arith in
+    let entry : get_or c.in-Some.nets.now i 0 ≡ get_or c.args.entries.now (i + 1) 0
+    = ap (λ k. get_or (c.in-Some.field-0-0.now ∷ c.in-Some.nets.now) k 0) z ∙ ap (λ xs. get_or xs (i + 1) 0) (sym c.in-Some.ensures.cases.0) in
+    filling_more _ _ _ _ c.loop-i.invariant (omega (arith, c.in-Some.ensures.cases.1)) (omega arith) (19 * i + 19 - 19 * i) c.copy_from_slice.new.self (omega arith)
+    (c.copy_from_slice.ensures.after ∙ c.kind_line-bytes.ensures ∙ ap (kind_line (i + 1)) (c.of.ensures ∙ ap (kind_of (i + 1)) entry))

@@ -44,9 +44,6 @@ renamed-good cs n m rank old r g = goods-moved n m rank cs g (rank_some cs n m r
 pub rises : (cs : List (List ℕ)) (n m : ℕ) (rank old : List ℕ) → Renumbers cs n m (by rank) (by old) → Rises old n m
 rises cs n m rank old r = record { zero = r.old_zero; most = λ k i j. (r.from k i j).1; rising = r.rising }
 
-pub carried_none : (old names t : List ℕ) → Carried old names t t 0
-carried_none old names t = record { size = refl; each = λ k i j. absurd (omega arith); other = λ v _. refl }
-
 pub carried_more : (old names t u : List ℕ) (n m w y x : ℕ) → Rises old n m → n < length t → 1 ≤ w → w ≤ m → y ≡ get_or names w 0 / 2 → x ≡ 2 * get_or old y 0 + get_or names w 0 % 2
     → Carried old names t u (w - 1) → Carried old names t (set u (get_or old w 0) x) w
 carried_more old names t u n m w y x r l o h d q s =

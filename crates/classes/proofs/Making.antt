@@ -1,15 +1,14 @@
 -- The tables of a renumbering, over values. Assumes nothing.
 use Rattle.std.proofs.Common.{◌≡◌, ℕ, zero, suc, ◌+◌, ◌-◌, ◌*◌, ◌/◌, ◌%◌, ◌<◌, ◌≤◌, Bool, true, false, cond, ◌||◌, eqb, leb, List, [], ◌∷◌, ◌++◌, map, length, get_or, take, drop, set, replicate, sym, refl, ap, ◌∙◌, subst, ⊎_elim, arith, length-drop, length-set}
 use mathlib.Core.Path.{fun_ext}
-use Rattle.std.proofs.lemmas.List.{get_or-set_same, get_or-set_other, at_drop_more, take_more, take_all, drop_all, append-nil, append_assoc, get_or-drop, get_or-take, length-take-le, length-map, take_more_set, map_more, take-take, get_or_past, drop-set-lt, drop-drop, length-append}
-use Rattle.std.specs.List.{list_any}
+use Rattle.std.proofs.lemmas.List.{get_or-set_same, get_or-set_other, at_drop_more, take_more, take_all, append-nil, append_assoc, get_or-drop, length-take-le, length-map, take_more_set, map_more, get_or_past, drop-set-lt, drop-drop, length-append}
 use Rattle.std.proofs.lemmas.List.Folds.{list_any-append}
 use borrow.Rule.Slice.PartMut.{put_mid}
 use Rattle.std.proofs.lemmas.Slice.{take-put_mid}
 use Rattle.std.proofs.lemmas.Bool.{cases_eq, cases_lt, cases_Bool, eq-eqb, ne_eqb, eqb-true, both_ways, or_cases, and_parts}
 use Rattle.std.proofs.lemmas.Bool.Decides.{nat_tests}
 use Rattle.cnf.specs.Truth.{inside}
-use Rattle.cnf.specs.Words.{read, well, encode, good, goods}
+use Rattle.cnf.specs.Words.{encode, good, goods}
 use Rattle.cnf.specs.Table.{by}
 use Rattle.classes.specs.Renumber.{mentions, occurs, moved, renamed, below, Renumbers}
 use Rattle.cnf.proofs.Reading.{first_good}
@@ -50,9 +49,6 @@ pub record Marking (words t here : List ℕ) (i : ℕ) : Type 0 where
   pub size : length here ≡ length t
   pub named : inside (length t - 1) (drop i words) ≡ true
   pub marked : (f : ℕ → Bool) → Marks f t → Marks (or f (mentions (take i words))) here
-
-pub marking_none : (words t : List ℕ) → inside (length t - 1) words ≡ true → Marking words t t 0
-marking_none words t h = record { size = refl; named = h; marked = λ f k. marks_same f _ t (λ v. sym (or-none (f v))) k }
 
 module _ (words t here : List ℕ) (i : ℕ) (w : Marking words t here i) where
   pub literal_named : i < length words → (inside (length t - 1) (drop (i + 1) words) ≡ true) × (get_or words i 0 / 2 < length t)
@@ -319,7 +315,7 @@ module _ (f : ℕ → ℕ) (m : ℕ) (all left : List (List ℕ)) (work here : L
       let lt : length (take (at + 1) xs) ≡ at + 1 = length-take-le (at + 1) xs (omega arith) in
       let front : take (at + 1) xs ≡ take at here ++ k ∷ [] = take_more_set here at k (omega arith) in
       let written : take end (put_mid (at + 1) j xs ys) ≡ take at here ++ k ∷ ys =
-          take-put_mid (at + 1) j xs ys end (omega arith) (omega arith) ∙ ap (λ zs. zs ++ ys) front ∙ append_assoc (take at here) (k ∷ []) ys in
+      take-put_mid (at + 1) j xs ys end (omega arith) (omega arith) ∙ ap (λ zs. zs ++ ys) front ∙ append_assoc (take at here) (k ∷ []) ys in
       record {
         size = omega (arith, length-append (take (at + 1) xs) (ys ++ drop j (drop (at + 1) xs)), length-append ys (drop j (drop (at + 1) xs)), length-drop j (drop (at + 1) xs), length-drop (at + 1) xs);
         room = room;

@@ -12,7 +12,7 @@ use Rattle.classes.specs.Classes.{agrees, Refines}
 -- t is the table as it was, u the table as it is, of which the first i entries are done, and f has the new representatives so far
 pub record Refining (bits : List Bool) (t u f : List ℕ) (i : ℕ) : Type 0 where
   pub long : length u ≡ length t
-  pub wide : length f ≡ length t
+  pub wide : length t ≤ length f
   pub later : (w : ℕ) → i ≤ w → get_or u w 0 ≡ get_or t w 0
   pub same : (w : ℕ) → w < i → agrees bits t w ≡ true → get_or u w 0 ≡ get_or t w 0
   pub moved : (w : ℕ) → w < i → agrees bits t w ≡ false → (get_or u w 0 ≡ rep f (get_or t w 0)) × (get_or f (get_or t w 0 / 2) 0 ≡ 0 → ⊥)
@@ -20,7 +20,7 @@ pub record Refining (bits : List Bool) (t u f : List ℕ) (i : ℕ) : Type 0 whe
   pub split : (k : ℕ) → k < length t → (get_or f k 0 ≡ 0 → ⊥)
       → (get_or f k 0 / 2 < i) × (agrees bits t (get_or f k 0 / 2) ≡ false) × (get_or u (get_or f k 0 / 2) 0 ≡ 2 * (get_or f k 0 / 2))
 
-pub refining_none : (bits : List Bool) (t f : List ℕ) → length f ≡ length t → ((k : ℕ) → k < length f → get_or f k 0 ≡ 0) → Refining bits t t f 0
+pub refining_none : (bits : List Bool) (t f : List ℕ) → length t ≤ length f → ((k : ℕ) → k < length f → get_or f k 0 ≡ 0) → Refining bits t t f 0
 refining_none bits t f e h = record {
   long = refl;
   wide = e;
@@ -92,7 +92,7 @@ module _ (bits : List Bool) (t u f : List ℕ) (i : ℕ) (s : Refining bits t u 
       let new : get_or (set u i x) i 0 ≡ x = get_or-set_same u i x 0 li in
       record {
         long = length-set u i x ∙ s.long;
-        wide = length-set f r y ∙ s.wide;
+        wide = omega (arith, length-set f r y, s.wide);
         later = λ w h. old w (omega arith) ∙ s.later w (omega arith);
         same = λ w h a. ⊎_elim (λ q. old w (omega arith) ∙ s.same w q a) (λ q. let e : w ≡ i = omega arith in absurd (both_ways _ g (ap (agrees bits t) (sym e) ∙ a))) (cases_lt w i);
         moved = λ w h a. ⊎_elim

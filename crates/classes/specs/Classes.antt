@@ -1,5 +1,5 @@
 -- Candidate classes of a set of clauses, and the table that they become. Assumes nothing.
-use Rattle.std.specs.Prelude.{◌≡◌, ℕ, ◌+◌, ◌*◌, ◌/◌, ◌<◌, ◌≤◌, Bool, true, false, cond, List, length, Some, None, Option, nat_lt, slice_index}
+use Rattle.std.specs.Prelude.{◌≡◌, ℕ, ◌*◌, ◌/◌, ◌<◌, ◌≤◌, Bool, true, false, cond, List, length, Some, None, Option, nat_lt, slice_index}
 use Rattle.std.specs.Bool.{beq}
 use Rattle.cnf.specs.Truth.{told, lit, clauses, Model, Equal}
 use Rattle.cnf.specs.Words.{read}
@@ -69,13 +69,6 @@ pub record Sweeping (cs : List (List ℕ)) (t : List ℕ) (v : ℕ) (left : List
 -- every entry is the variable itself
 abbrev pub Plain : List ℕ → Type 0
 Plain t = (w : ℕ) → w < length t → slice_index t w ≡ 2 * w
-
--- the spaces are of m variables; the bits are those from 1 on
-pub record Spaces (m : ℕ) (names split spare : List ℕ) (bits : List Bool) : Type 0 where
-  pub names_size : length names ≡ m + 1
-  pub split_size : length split ≡ m + 1
-  pub spare_size : length spare ≡ m + 1
-  pub bits_size : length bits ≡ m
 
 -- the table has one representative for literals that are equal in every model, and for no others; each is the lowest
 pub record Swept (m : ℕ) (cs : List (List ℕ)) (t : List ℕ) : Type 0 where

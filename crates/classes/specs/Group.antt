@@ -44,14 +44,6 @@ abbrev pub CarriedBack : ℕ → List (List ℕ) → List ℕ → List ℕ → L
 CarriedBack m cs old t u true = Back m cs old t u
 CarriedBack m cs old t u false = ((a : ℕ → Bool) → Model cs a → ⊥) × (u ≡ t)
 
--- the spaces have this many entries
-pub record Room (size : ℕ) (old names split spare : List ℕ) (bits : List Bool) : Type 0 where
-  pub old_size : length old ≡ size
-  pub names_size : length names ≡ size
-  pub split_size : length split ≡ size
-  pub spare_size : length spare ≡ size
-  pub bits_size : length bits ≡ size
-
 -- old has variables up to n, in rising order
 pub record Rises (old : List ℕ) (n m : ℕ) : Type 0 where
   pub zero : slice_index_or old 0 0 ≡ 0

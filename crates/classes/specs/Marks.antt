@@ -1,8 +1,8 @@
 -- The tables of a renumbering while they are made. Assumes nothing.
-use Rattle.std.specs.Prelude.{◌≡◌, ℕ, ◌+◌, ◌<◌, ◌≤◌, Bool, true, cond, ◌||◌, List, ◌++◌, map, length, take, drop, slice_index, slice_index_or}
+use Rattle.std.specs.Prelude.{◌≡◌, ℕ, ◌<◌, ◌≤◌, Bool, true, cond, ◌||◌, List, length, take, slice_index, slice_index_or}
 use Rattle.cnf.specs.Words.{read, encode}
 use Rattle.cnf.specs.Table.{by}
-use Rattle.classes.specs.Renumber.{moved, renamed, below, occurring, Renumbers}
+use Rattle.classes.specs.Renumber.{renamed, below, occurring, Renumbers}
 
 -- entry v says whether f v
 pub record Marks (f : ℕ → Bool) (t : List ℕ) : Type 0 where

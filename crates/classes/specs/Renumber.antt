@@ -1,5 +1,5 @@
 -- A clause list with its variables renumbered, and a sheet under a new table. Assumes nothing.
-use Rattle.std.specs.Prelude.{◌≡◌, ℕ, zero, suc, ◌+◌, ◌*◌, ◌/◌, ◌<◌, ◌≤◌, Bool, true, false, cond, ◌||◌, ◌↔◌, List, [], ◌∷◌, map, length, ◌==◌, slice_index}
+use Rattle.std.specs.Prelude.{◌≡◌, ℕ, zero, suc, ◌+◌, ◌*◌, ◌/◌, ◌<◌, ◌≤◌, Bool, true, cond, ◌↔◌, List, map, length, ◌==◌, slice_index}
 use Rattle.std.specs.List.{list_any}
 use Rattle.cnf.specs.Truth.{lit, Model}
 use Rattle.cnf.specs.Words.{goods}

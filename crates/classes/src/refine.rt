@@ -8,19 +8,21 @@ use cnf::table::representative;
 
 // Splits each class where the bits say so: `split` has for the variable that named a class the literal that names what differs from it.
 pub(crate) fn refine(table: &mut [u16], split: &mut [u16], bits: &[bool])
-    requires size { (length table.old ≡ length bits.now + 1) × ((length split.old ≡ length bits.now + 1) × (length bits.now ≤ 2000)) }
+    requires size { length table.old ≡ length bits.now + 1 }
+    requires parts { length table.old ≤ length split.old }
+    requires few { length bits.now ≤ 2000 }
     requires tabled { Tabled table.old }
     ensures { Refines bits.now table.old table.new split.new }
 {
     split.fill(0);
-    for w in 0..table.len() {
-        let old = table[w];
+    for (w, name) in table.iter_mut().enumerate() {
+        let old = *name;
         if is_true((2 * w) as u16, bits) != is_true(old, bits) {
             let r = variable(old);
             if split[r] == 0 {
                 split[r] = (2 * w) as u16 + old % 2;
             }
-            table[w] = representative(split, old);
+            *name = representative(split, old);
         }
     }
 }

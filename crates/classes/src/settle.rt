@@ -1,15 +1,13 @@
-// One variable of a sweep: the searches that tell it from its name, and what becomes of it.
-ghost use Rattle.std.specs.Prelude.{◌≡◌, ℕ, ◌+◌, ◌*◌, ◌/◌, ◌≤◌, true, List, length, take};
+// What a sweep asks the solver: the first classes, the searches that tell a variable from its name, and the model that does.
+ghost use Rattle.std.specs.Prelude.{◌≡◌, ℕ, ◌+◌, ◌-◌, ◌*◌, ◌/◌, ◌<◌, ◌≤◌, true, length, if◌then◌else◌, vec_len, vec_capacity, slice_index};
 ghost use Rattle.cnf.specs.Truth.{told, lit};
 ghost use Rattle.cnf.specs.Words.{read, well};
 ghost use Rattle.cnf.specs.Table.{Tabled, via};
 ghost use Rattle.solver.specs.Search.{accepts};
-ghost use Rattle.classes.specs.Classes.{held, Keeps, Asked, Differs, Plain, Spaces, Sweeping, settled};
+ghost use Rattle.classes.specs.Classes.{held, Keeps, Asked, Differs, settled};
 
-use crate::refine::refine;
 use cnf::literal::{opposite, variable};
 use solver::Solver;
-use words::apply::apply_all;
 
 // A search that cannot be refused.
 pub(crate) fn ask<S: Solver>(solver: &mut S, m: usize, list: &[u16], assumed: &[u16]) -> bool
@@ -19,7 +17,7 @@ pub(crate) fn ask<S: Solver>(solver: &mut S, m: usize, list: &[u16], assumed: &[
 {
     match solver.search(m, list, assumed) {
         Ok(found) => found,
-        Err(_) => unreachable(),
+        Err(_) => unreachable!(),
     }
 }
 
@@ -32,8 +30,12 @@ pub(crate) fn look<S: Solver>(solver: &S, code: u16) -> bool
 }
 
 // Looks for a model in which a variable and a lower literal differ. Either of them can be the true one, so both ways are searched.
-fn differ<S: Solver>(solver: &mut S, m: usize, list: &[u16], v: usize, old: u16) -> bool
-    requires { (m ≤ S.CAPACITY) × ((well m list.now ≡ true) × ((1 ≤ v) × ((v ≤ m) × (old / 2 ≤ v)))) }
+pub(crate) fn differ<S: Solver>(solver: &mut S, m: usize, list: &[u16], v: usize, old: u16) -> bool
+    requires capacity { m ≤ S.CAPACITY }
+    requires good { well m list.now ≡ true }
+    requires net { 1 ≤ v }
+    requires known { v ≤ m }
+    requires lower { old / 2 ≤ v }
     ensures answer { Differs m (read list.now) (2 * v) old (S.kept solver.new) result }
     ensures tallied { S.tally solver.new ≤ S.tally solver.old + 2 }
 {
@@ -48,53 +50,34 @@ fn differ<S: Solver>(solver: &mut S, m: usize, list: &[u16], v: usize, old: u16)
     ask(solver, m, list, &[opposite(own), old])
 }
 
-// The model that is kept, with settled variables at the value of their names: a model of the list that they were replaced in.
-fn recall<S: Solver>(solver: &S, m: usize, names: &[u16], v: usize, bits: &mut [bool])
-    requires { (Keeps m (S.kept solver.now)) × ((length names.now ≡ m + 1) × ((length bits.old ≡ m) × ((m ≤ 2000) × (Tabled names.now)))) }
-    ensures { told bits.new ≡ via (held (S.kept solver.now)) (settled names.now v) }
+// The first classes of m variables: what is true in the model that is kept, and what is false.
+pub(crate) fn start<S: Solver>(solver: &S, m: usize, names: &mut Vec<u16>)
+    requires few { m ≤ 2000 }
+    requires room { m < vec_capacity names.old }
+    ensures size { vec_len names.new ≡ m + 1 }
+    ensures cap { vec_capacity names.new ≡ vec_capacity names.old }
+    ensures named { (w : ℕ) → w < length names.new.items → slice_index names.new.items w ≡ (if held (S.kept solver.now) w then 1 else 0) }
 {
-    for i in 0..m {
-        let w = i + 1;
-        let code = if w < v { names[w] } else { (2 * w) as u16 };
-        bits[i] = look(solver, code);
+    names.clear();
+    for v in 0..m + 1 {
+        names.push_reserved(look(solver, (2 * v) as u16) as u16);
     }
 }
 
-// Settles the variable v, where all lower ones are settled, and says how many words of the list are left.
-// Told from its name, v names itself after the split, since what is lower stays where it is; otherwise its name replaces it in the list.
-pub(crate) fn settle<S: Solver>(
-    solver: &mut S,
-    m: usize,
-    v: usize,
-    work: &mut [u16],
-    left: usize,
-    names: &mut [u16],
-    split: &mut [u16],
-    spare: &mut [u16],
-    bits: &mut [bool],
-) -> usize
-    requires size { (Spaces m names.old split.old spare.old bits.old) × ((left ≤ length work.old) × ((m ≤ S.CAPACITY) × ((1 ≤ v) × (v ≤ m)))) }
-    requires good { well m (take left work.old) ≡ true }
-    requires tabled { Tabled names.old }
-    requires plain { Plain spare.old }
-    ensures fewer { result ≤ left }
-    ensures good { well m (take result work.new) ≡ true }
-    ensures plain { Plain spare.new }
-    ensures tallied { S.tally solver.new ≤ S.tally solver.old + 2 }
-    ensures step { (cs : List (List ℕ)) → Sweeping cs names.old v (read (take left work.old)) → Sweeping cs names.new (v + 1) (read (take result work.new)) }
+// The bits of the model that is kept, with settled variables at the value of their names: a model of the list that they were replaced in.
+pub(crate) fn recall<S: Solver>(solver: &S, names: &[u16], v: usize, bits: &mut Vec<bool>)
+    requires kept { Keeps (length names.now - 1) (S.kept solver.now) }
+    requires some { 1 ≤ length names.now }
+    requires few { length names.now ≤ 2001 }
+    requires tabled { Tabled names.now }
+    requires room { length names.now ≤ vec_capacity bits.old }
+    ensures told { told bits.new.items ≡ via (held (S.kept solver.now)) (settled names.now v) }
+    ensures size { vec_len bits.new + 1 ≡ length names.now }
+    ensures cap { vec_capacity bits.new ≡ vec_capacity bits.old }
 {
-    let own = (2 * v) as u16;
-    let old = names[v];
-    if old == own {
-        return left;
+    bits.clear();
+    for w in 1..names.len() {
+        let code = if w < v { names[w] } else { (2 * w) as u16 };
+        bits.push_reserved(look(solver, code));
     }
-    if differ(solver, m, &work[..left], v, old) {
-        recall(solver, m, names, v, bits);
-        refine(names, split, bits);
-        return left;
-    }
-    spare[v] = old;
-    let less = apply_all(spare, &mut work[..left]);
-    spare[v] = own;
-    less
 }

@@ -1,9 +1,7 @@
 -- The first clause of at most one literal. Assumes nothing.
-use Rattle.std.proofs.Common.{◌≡◌, ℕ, ◌+◌, ◌-◌, ◌≤◌, Bool, false, List, [], ◌∷◌, length, get_or, take, drop, refl, ap, ◌∙◌, arith}
+use Rattle.std.proofs.Common.{◌≡◌, ℕ, ◌≤◌, Bool, false, List, [], ◌∷◌, length, get_or, refl, ap, arith}
 use Rattle.std.proofs.lemmas.Bool.{and_right}
 use Rattle.cnf.specs.Truth.{clause, clauses}
-use Rattle.cnf.specs.Words.{read}
-use Rattle.cnf.proofs.Reading.{ClauseAt}
 use Rattle.propagation.specs.declared.unit.Pending.TheVariants.{Conflict, Forces}
 use Rattle.propagation.specs.Propagate.{pending}
 

@@ -6,5 +6,4 @@ pub fn rewriting_keeps()
     ensures propagated { PropagationKeeps }
     ensures kept { RewritingKeeps }
     ensures followed { RewritingFollows }
-{
-}
+{}

@@ -1,7 +1,7 @@
 -- How the lines of a table fill a space, one after the other. Assumes nothing.
 use Rattle.std.proofs.Common.{◌≡◌, ℕ, ◌+◌, ◌-◌, ◌*◌, ◌<◌, ◌≤◌, List, [], ◌∷◌, ◌++◌, length, get_or, take, drop, sym, refl, ap, ◌∙◌, arith}
 use borrow.Rule.Slice.PartMut.{put_mid}
-use Rattle.std.proofs.lemmas.List.{append_assoc, append-nil, length-append, length-drop, drop_all, drop_more, drop-drop, take-append-drop}
+use Rattle.std.proofs.lemmas.List.{append_assoc, length-append, length-drop, drop_more, drop-drop}
 use Rattle.std.proofs.lemmas.Slice.{take-put_mid, drop-put_mid}
 use Rattle.cnf.specs.Table.{kind_of}
 use Rattle.report.specs.Lines.{kind_line, lines_from, net_report}
@@ -20,10 +20,6 @@ length_report t = length-lines 1 (drop 1 t) ∙ ap (λ n. 19 * n) (length-drop 1
 pub record Filling (t old new : List ℕ) (i : ℕ) : Type 0 where
   pub lines : take (19 * i) new ++ lines_from (i + 1) (drop (i + 1) t) ≡ net_report t
   pub behind : drop (19 * i) new ≡ drop (19 * i) old
-
--- no line yet
-pub filling_none : (t old : List ℕ) → Filling t old old 0
-filling_none t old = record { lines = refl; behind = refl }
 
 -- one line more
 pub filling_more :
@@ -47,13 +43,3 @@ filling_more t old new i f h l k bytes e b =
           ∙ ap (drop 19) f.behind
           ∙ sym (further old);
     }
-
--- all lines
-pub filling_all :
-    (t old new : List ℕ) (i : ℕ) → Filling t old new i → (n : ℕ) → i ≡ n → n ≡ length t - 1 → new ≡ net_report t ++ drop (19 * n) old
-filling_all t old new i f n same e =
-    let none : drop (i + 1) t ≡ [] = drop_all (i + 1) t (omega arith) in
-    let lines : take (19 * i) new ≡ net_report t =
-    sym (append-nil (take (19 * i) new)) ∙ ap (λ r. take (19 * i) new ++ lines_from (i + 1) r) (sym none) ∙ f.lines in
-    sym (take-append-drop (19 * i) new) ∙ ap (λ p. p ++ drop (19 * i) new) lines ∙ ap (λ r. net_report t ++ r) f.behind
-    ∙ ap (λ m. net_report t ++ drop (19 * m) old) same

@@ -1,4 +1,4 @@
-use Rattle.std.proofs.Common.{◌≡◌, ◌+◌, ◌-◌, subst, arith}
+use Rattle.std.proofs.Common.{◌≡◌, ◌+◌, ◌-◌, length, subst, arith}
 use Rattle.classes.specs.Group.{Carried}
 use Rattle.classes.proofs.Carrying.{carried_more}
 use Rattle.classes.proofs.group.carry.Goals as goal
@@ -11,5 +11,5 @@ loop-w-preserved c =
 
 pub returns : goal.returns
 returns c =
-    let z : c.loop-w.w - 1 ≡ c.args.m = omega (arith, c.loop-w.auto.w-end (omega arith)) in
+    let z : c.loop-w.w - 1 ≡ length c.args.names.now - 1 = omega (arith, c.loop-w.auto.w-end, c.requires.some) in
     subst (Carried c.args.old.now c.args.names.now c.args.table.now _) z c.loop-w.invariant

@@ -1,44 +1,33 @@
-use Rattle.std.proofs.Common.{◌≡◌, ℕ, ◌-◌, ◌≤◌, true, length, take, sym, refl, ap, ◌∙◌, subst, arith}
+use Rattle.std.proofs.Common.{◌≡◌, ℕ, ◌-◌, true, false, length, take, sym, refl, ap, ◌∙◌, subst, arith}
 use Rattle.std.proofs.lemmas.List.{take_at}
 use Rattle.cnf.specs.Words.{read, well}
+use Rattle.cnf.specs.Table.{Tabled}
+use Rattle.cnf.proofs.Entries.{entries_from_tabled}
 use Rattle.classes.specs.Marks.{Renumbered}
-use Rattle.classes.specs.Group.{CarriedBack, Rises}
-use Rattle.classes.proofs.Carrying.{small_well, group_back, rises, not_refused}
+use Rattle.classes.specs.Group.{Carried, CarriedBack}
+use Rattle.classes.proofs.Carrying.{small_well, group_back, not_refused}
 use Rattle.classes.proofs.group.sweep_group.Goals as goal
 
-pub sweep_numbered-found-requires : goal.sweep_numbered-found-requires
-sweep_numbered-found-requires g c =
+pub sweep-found-requires-clause-good : goal.sweep-found-requires-clause-good
+sweep-found-requires-clause-good g c =
     let list = c.args.list.now in
     let n : ℕ = c.args.scratch.now.rank.len - 1 in
     let m = c.renumber-m.result in
     let work = c.renumber-m.new.work in
     let rank = c.renumber-m.new.rank in
     let old = c.renumber-m.new.old in
-    let all = c.args.scratch.now.tables in
-    let p = c.args.scratch.now.size in
     let e : length c.deref_mut.result.now - 1 ≡ n = omega (arith, c.deref_mut.ensures.len) in
     let s : Renumbered list work rank old n m = subst (λ x. Renumbered list work rank old x m) e c.renumber-m.ensures in
     let h : well n list ≡ true = sym (c.if-not-well_formed.ensures ∙ ap (λ x. well (x - 1) list) c.len-size.ensures) in
-    let t : length c.args.table.now ≡ c.args.scratch.now.rank.len = omega (arith, c.len-size.ensures) in
-    let f : m ≤ n = s.tables.few in
-    let o : c.deref.result.now ≡ old = c.deref.ensures.value ∙ take_at old _ _ (c.renumber-m.auto.old ∙ c.deref_mut-2.ensures.len) in
-    record {
-      size = (
-        record {
-          old_size = c.deref.ensures.len ∙ all.0 ∙ sym t;
-          names_size = c.deref_mut-3.ensures.len ∙ all.1 ∙ sym t;
-          split_size = c.deref_mut-4.ensures.len ∙ all.2 ∙ sym t;
-          spare_size = c.deref_mut-5.ensures.len ∙ all.3 ∙ sym t;
-          bits_size = c.deref_mut-6.ensures.len ∙ all.4 ∙ sym t;
-        },
-        (omega arith, (omega arith, omega (arith, c.CAPACITY.ensures))),
-      );
-      good = small_well list work rank old n m h s;
-      rises = subst (λ x. Rises x (length c.args.table.now - 1) m) (sym o) (subst (λ x. Rises old (x - 1) m) (sym t) (rises (read list) n m rank old s.tables));
-    }
+    small_well list work rank old n m h s
 
-pub returns : goal.returns
-returns g c =
+pub carry-requires-clause-low : goal.carry-requires-clause-low
+carry-requires-clause-low g c =
+    let names = c.deref-then-found.ensures.value in
+    λ k l. (entries_from_tabled _ (subst Tabled (sym names) c.if-found.ensures.answer.tabled)).low k l
+
+pub returns-then-found-clause-answer : goal.returns-then-found-clause-answer
+returns-then-found-clause-answer g c =
     let list = c.args.list.now in
     let n : ℕ = c.args.scratch.now.rank.len - 1 in
     let m = c.renumber-m.result in
@@ -50,13 +39,34 @@ returns g c =
     let h : well n list ≡ true = sym (c.if-not-well_formed.ensures ∙ ap (λ x. well (x - 1) list) c.len-size.ensures) in
     let o : c.deref.result.now ≡ old = c.deref.ensures.value ∙ take_at old _ _ (c.renumber-m.auto.old ∙ c.deref_mut-2.ensures.len) in
     let t = c.args.table.now in
-    let u = c.sweep_numbered-found.new.table in
-    let b = c.sweep_numbered-found.result in
-    record {
-      answer = (
-        not_refused _ _ _ m list t (omega (arith, c.len-size.ensures)) h (omega arith) s.count (omega (arith, c.CAPACITY.ensures)),
-        group_back list work rank old n m h s t u b (subst (λ x. CarriedBack m (read (take (length list) work)) x t u b) o c.sweep_numbered-found.ensures.answer),
-        omega (arith, c.sweep_numbered-found.ensures.tallied, s.count),
-      );
-      size = refl;
-    }
+    let u = c.carry.new.table in
+    let size : length c.deref-then-found.result.now - 1 ≡ m = omega (arith, c.deref-then-found.ensures.len, c.if-found.ensures.size refl) in
+    let names = c.deref-then-found.ensures.value in
+    let back : CarriedBack m (read (take (length list) work)) old t u true = record {
+      names = c.sweep-found.new.self.names.items;
+      swept = c.if-found.ensures.answer;
+      carried = subst (λ k. Carried old c.sweep-found.new.self.names.items t u k) size
+          (subst (λ xs. Carried old xs t u (length c.deref-then-found.result.now - 1)) names
+          (subst (λ xs. Carried xs c.deref-then-found.result.now t u (length c.deref-then-found.result.now - 1)) o c.carry.ensures));
+    } in (
+      not_refused _ _ _ m list t (omega (arith, c.len-size.ensures)) h (omega arith) s.count (omega (arith, c.CAPACITY.ensures)),
+      rw c.if-found.true (group_back list work rank old n m h s t u true back),
+      omega (arith, c.if-found.ensures.tallied, s.count),
+    )
+
+pub returns-else-found-clause-answer : goal.returns-else-found-clause-answer
+returns-else-found-clause-answer g c =
+    let list = c.args.list.now in
+    let n : ℕ = c.args.scratch.now.rank.len - 1 in
+    let m = c.renumber-m.result in
+    let work = c.renumber-m.new.work in
+    let rank = c.renumber-m.new.rank in
+    let old = c.renumber-m.new.old in
+    let e : length c.deref_mut.result.now - 1 ≡ n = omega (arith, c.deref_mut.ensures.len) in
+    let s : Renumbered list work rank old n m = subst (λ x. Renumbered list work rank old x m) e c.renumber-m.ensures in
+    let h : well n list ≡ true = sym (c.if-not-well_formed.ensures ∙ ap (λ x. well (x - 1) list) c.len-size.ensures) in
+    let t = c.args.table.now in (
+      not_refused _ _ _ m list t (omega (arith, c.len-size.ensures)) h (omega arith) s.count (omega (arith, c.CAPACITY.ensures)),
+      rw c.if-found.false (group_back list work rank old n m h s t t false (c.if-found.ensures.answer, refl)),
+      omega (arith, c.if-found.ensures.tallied, s.count),
+    )

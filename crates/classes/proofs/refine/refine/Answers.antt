@@ -1,5 +1,6 @@
 use Rattle.std.proofs.Common.{◌≡◌, ◌<◌, true, false, length, arith}
 use Rattle.cnf.proofs.Entries.{entries_from_tabled}
+use Rattle.std.proofs.lemmas.List.{set-get_or}
 use Rattle.classes.specs.Classes.{agrees}
 use Rattle.classes.proofs.Making.{cleared}
 use Rattle.classes.proofs.Refining.{refining_keep, name_within, agrees_not, agrees_still, move_by, mint_by, refining_all, refining_none}
@@ -29,7 +30,7 @@ loop-w-preserved c =
           ]))
       | else-is_true w ↦
           (let a : agrees c.args.bits.now c.args.table.now c.loop-w.w ≡ true = agrees_still _ _ _ _ _ c.loop-w.invariant e _ _ c.is_true.ensures c.is_true-in-loop-w.ensures w.if-is_true.false in
-          rw (w.table-is, w.split-is) (refining_keep _ _ _ _ _ c.loop-w.invariant e l a))
+          rw (w.table-is, set-get_or c.loop-w.table c.loop-w.w 0, w.split-is) (refining_keep _ _ _ _ _ c.loop-w.invariant e l a))
     ]
 
 pub returns : goal.returns

@@ -1,8 +1,8 @@
-use Rattle.std.proofs.Common.{◌-◌, length, refl, sym, ap, ◌∙◌, arith, map, take}
-use Rattle.cnf.specs.Words.{read, encode}
+use Rattle.std.proofs.Common.{length, refl, ap, ◌∙◌, arith, map, take}
+use Rattle.cnf.specs.Words.{encode}
 use Rattle.cnf.specs.Table.{by}
 use Rattle.classes.specs.Renumber.{moved}
-use Rattle.cnf.proofs.Reading.{read_means, first_good}
+use Rattle.cnf.proofs.Reading.{read_means}
 use Rattle.classes.proofs.Making.{writing_more, writing_all}
 use Rattle.classes.proofs.renumber.write.Goals as goal
 

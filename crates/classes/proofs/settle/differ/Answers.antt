@@ -4,17 +4,17 @@ use Rattle.classes.proofs.Asking.{accepts-one, accepts_two, differs_constant, di
 use Rattle.classes.proofs.settle.differ.Goals as goal
 
 pub ask-requires : goal.ask-requires
-ask-requires g c = accepts-one _ _ _ c.requires.0 c.requires.1.0 _ (omega arith) (omega arith)
+ask-requires g c = accepts-one _ _ _ c.requires.capacity c.requires.good _ (omega arith) (omega arith)
 
 pub ask-requires-2 : goal.ask-requires-2
 ask-requires-2 g c =
     let h : c.opposite.result / 2 ≡ c.args.old / 2 = omega (arith, c.opposite.ensures) in
-    accepts_two _ _ _ c.requires.0 c.requires.1.0 _ _ (omega arith) (omega arith) (omega arith) (omega arith)
+    accepts_two _ _ _ c.requires.capacity c.requires.good _ _ (omega arith) (omega arith) (omega arith) (omega arith)
 
 pub ask-requires-3 : goal.ask-requires-3
 ask-requires-3 g c =
     let h : c.opposite-2.result / 2 ≡ c.args.v = omega (arith, c.opposite-2.ensures) in
-    accepts_two _ _ _ c.requires.0 c.requires.1.0 _ _ (omega arith) (omega arith) (omega arith) (omega arith)
+    accepts_two _ _ _ c.requires.capacity c.requires.good _ _ (omega arith) (omega arith) (omega arith) (omega arith)
 
 pub returns-then-old-lt2 : goal.returns-then-old-lt2
 returns-then-old-lt2 g c = record {

@@ -23,8 +23,8 @@ pub read_push : (ws c vs : List ℕ) → encode (read ws) ≡ ws → vs ≡ (ws 
 read_push ws c vs e v = ap read (words_push ws c vs e v) ∙ read-encode (read ws ++ c ∷ [])
 
 -- a count is pushed, and then the codes
-pub pushed : (ws us vs c s : List ℕ) (n : ℕ) → us ≡ ws ++ n ∷ [] → vs ≡ us ++ s → s ≡ c → n ≡ length c → vs ≡ (ws ++ length c ∷ []) ++ c
-pushed ws us vs c s n a b d e = cc
+pub pushed : (ws rs us vs c s : List ℕ) (n : ℕ) → rs ≡ ws → us ≡ rs ++ n ∷ [] → vs ≡ us ++ s → s ≡ c → n ≡ length c → vs ≡ (ws ++ length c ∷ []) ++ c
+pushed ws rs us vs c s n r a b d e = cc
 
 pub nothing : (xs : List ℕ) → length xs ≡ 0 → xs ≡ []
 nothing [] e = refl

@@ -4,9 +4,10 @@ pub mod Pieces
 pub mod Spelling
 pub mod Written
 pub mod Keeping
-pub mod Bytes
-pub mod Stepping
-pub mod Arms
-pub mod Ending
 pub mod Within
+pub mod Ending
+pub mod Taking
+pub mod Roads
+pub mod Headings
+pub mod Beginning
 pub mod Readings

@@ -29,18 +29,18 @@ pub fn read(heap: Global, text: &[u8], space: usize) -> Result<Formula, ReadErro
     ensures back { (n : ℕ) (cs : List (List ℕ)) → Within space n cs → text.now ≡ written n cs → GivesBack n cs result }
 {
     if text.len() > MOST_BYTES {
-        return Err(reader::refused(1, ReaderFault::TextTooLong));
+        return Err(error::refused(1, ReaderFault::TextTooLong.into()));
     }
-    let mut reader = Reader::new(heap, text, space);
-    for b in text {
-        reader.step(*b)?;
+    let mut reader = Reader::new(heap);
+    for line in text.split(|b| *b == b'\n') {
+        reader.take_line(line)?;
     }
-    let (problem, clauses) = reader.finish()?;
     let Clauses {
+        problem,
         words,
         count,
         current: _,
-    } = clauses;
+    } = reader.finish(space)?;
     Ok(Formula {
         nets: problem.nets as usize,
         count,

@@ -7,7 +7,7 @@ use Rattle.dimacs.specs.declared.clauses.Clauses.{Clauses}
 use Rattle.dimacs.specs.declared.error.ReadError.{ReadError}
 use Rattle.dimacs.specs.declared.problem.Problem.{Problem}
 use Rattle.dimacs.specs.declared.reader.Reader.{Reader}
-use Rattle.dimacs.specs.Numbers.{is_comment, cut}
+use Rattle.dimacs.specs.Numbers.{is_comment}
 use Rattle.dimacs.specs.Text.{Placed, placed, plain, tokens, codes, is_end, closed, finished, ended, body, headed}
 use Rattle.dimacs.specs.Progress.{done, ended_from, numbers_say, lines_say, Faults, Headed, Goes, Halts}
 use Rattle.dimacs.proofs.Cutting.{glue-none}

@@ -7,7 +7,6 @@ use Rattle.std.proofs.lemmas.Bool.{and_from}
 use Rattle.std.proofs.lemmas.Iterator.{YieldsList}
 use Rattle.std.specs.List.{slice_split, filter}
 use Rattle.std.specs.Iterator.{AlwaysYields}
-use Rattle.dimacs.specs.declared.problem.Problem.{Problem}
 use Rattle.dimacs.specs.Numbers.{is_space, cut, filled, numeral}
 use Rattle.dimacs.specs.Text.{both, pair, header_of, starts_blank}
 use Rattle.dimacs.proofs.Roads.{is_filled, words_cut, went, ended}

@@ -1,4 +1,3 @@
-pub mod Numbers
 pub mod Cutting
 pub mod Pieces
 pub mod Spelling

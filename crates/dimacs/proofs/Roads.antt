@@ -1,5 +1,5 @@
 -- What the iterators of the reader give. Assumes nothing.
-use Rattle.std.proofs.Common.{◌≡◌, ℕ, suc, ◌+◌, ◌<◌, ◌≤◌, Bool, cond, not, eqb, List, [], ◌∷◌, ◌++◌, map, length, Some, None, Option, sym, refl, ap, ◌∙◌, append_assoc, arith, ne_eqb, Bor}
+use Rattle.std.proofs.Common.{◌≡◌, ℕ, suc, ◌+◌, ◌≤◌, Bool, cond, not, eqb, List, [], ◌∷◌, ◌++◌, map, length, Some, None, Option, sym, refl, ap, ◌∙◌, append_assoc, arith, ne_eqb, Bor}
 use Rattle.std.specs.List.{slice_split, onto_first, filter}
 use Rattle.std.specs.Iterator.{Yields, AlwaysYields}
 use Rattle.std.proofs.iter.Yields.{gives_left}
@@ -8,7 +8,7 @@ use Rattle.std.proofs.lemmas.List.{map-append}
 use Rattle.std.proofs.lemmas.List.Splits.{length-slice_split}
 use Rattle.std.proofs.lemmas.List.Sums.{count_by-le-length}
 use Rattle.dimacs.specs.Numbers.{glue, cut, filled}
-use Rattle.dimacs.specs.Text.{Placed, placed}
+use Rattle.dimacs.specs.Text.{placed}
 
 onto_glue : (b : ℕ) (ps : List (List ℕ)) → onto_first b ps ≡ glue (b ∷ []) ps
 onto_glue b [] = refl

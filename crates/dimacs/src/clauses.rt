@@ -3,19 +3,11 @@ ghost use Rattle.std.specs.Prelude.{◌≡◌, ◌<◌, ◌≤◌, length};
 ghost use Rattle.cnf.specs.Words.{encode, read};
 
 use crate::error::{ReadError, refused};
+use crate::limits::{MOST_LITERALS, MOST_WORDS};
 use crate::number::read_number;
 use crate::problem::Problem;
 use faults::{Fault, ReaderFault, SheetFault};
 use std::alloc::Global;
-
-// The most variables that a header may declare.
-pub(crate) const MOST_NETS: u32 = 2_000;
-
-// The most literals of a clause.
-const MOST_LITERALS: usize = 64;
-
-// The most words of store space that count.
-const MOST_WORDS: usize = 30_000;
 
 // The header, the closed clauses in words and how many they are, and the literals of the current
 // one, which is not ended yet.

@@ -9,6 +9,7 @@ mod clauses;
 pub mod error;
 pub mod formula;
 mod header;
+mod limits;
 mod number;
 mod problem;
 mod reader;
@@ -17,11 +18,9 @@ use clauses::Clauses;
 use error::ReadError;
 use faults::ReaderFault;
 use formula::Formula;
+use limits::MOST_BYTES;
 use reader::Reader;
 use std::alloc::Global;
-
-// The longest text, in bytes.
-const MOST_BYTES: usize = 60_000;
 
 // Reads a text for a sheet with this many words of store space: all clauses, or the text's first fault.
 pub fn read(heap: Global, text: &[u8], space: usize) -> Result<Formula, ReadError>

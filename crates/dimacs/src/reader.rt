@@ -2,15 +2,13 @@
 ghost use Rattle.std.specs.Prelude.{◌≡◌, ◌+◌, ◌<◌, ◌≤◌, None, [], ◌∷◌, OnOk, IfOk, IfErr};
 ghost use Rattle.dimacs.specs.Progress.{ends, means, Goes, Halts, Says, Faults, Headed};
 
-use crate::clauses::{Clauses, MOST_NETS};
+use crate::clauses::Clauses;
 use crate::error::{ReadError, refused};
 use crate::header::read_header;
+use crate::limits::{MOST_CLAUSES, MOST_NETS};
 use crate::problem::Problem;
 use faults::ReaderFault;
 use std::alloc::Global;
-
-// The most clauses that a header may declare.
-const MOST_CLAUSES: u32 = 8_000;
 
 // How far a text is read: how many of its lines, and the clauses once the header was among them.
 #[derive(Drop)]

@@ -1,4 +1,4 @@
-use Rattle.std.proofs.Common.{ℕ, ◌+◌, List, [], ◌∷◌, ◌++◌, length, vec_items, sym, ap, ◌∙◌, arith, length-append}
+use Rattle.std.proofs.Common.{◌+◌, [], ◌∷◌, length, vec_items, sym, ap, ◌∙◌, arith, length-append}
 use Rattle.cnf.specs.Words.{encode, read}
 use Rattle.dimacs.proofs.Keeping.{pushed, words_push, read_push, encode-length}
 use Rattle.dimacs.proofs.clauses.Clauses.close.Goals as goal

@@ -1,4 +1,4 @@
-use Rattle.std.proofs.Common.{sym, ap, ◌∙◌, length, arith, refl}
+use Rattle.std.proofs.Common.{sym, ap, ◌∙◌, length, arith}
 use Rattle.cnf.specs.Words.{encode, read}
 use Rattle.cnf.proofs.Reading.{read-nil}
 use Rattle.dimacs.proofs.clauses.Clauses.new.Goals as goal

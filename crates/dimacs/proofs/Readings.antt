@@ -1,23 +1,21 @@
 -- What a reading gives. Assumes nothing.
-use Rattle.std.proofs.Common.{◌≡◌, ℕ, ◌≤◌, true, cond, List, [], ◌∷◌, ◌++◌, length, Ok, Err, vec_items, Result, sym, ap, ◌∙◌, subst, append-nil, arith, le-leb}
+use Rattle.std.proofs.Common.{◌≡◌, ℕ, ◌≤◌, cond, List, [], ◌∷◌, ◌++◌, length, Ok, Err, Result, sym, ap, ◌∙◌, subst, append-nil, arith, le-leb}
+use Rattle.std.specs.Result as results
 use Rattle.faults.specs.declared.ReaderFault.TheVariants.{TextTooLong}
 use Rattle.faults.specs.declared.Fault.TheVariants.{Reader}
-use Rattle.cnf.specs.Words.{well}
-use Rattle.cnf.proofs.Reading.{well-encode}
-use Rattle.dimacs.specs.declared.clauses.Clauses.{Clauses}
 use Rattle.dimacs.specs.declared.error.ReadError.{ReadError}
 use Rattle.dimacs.specs.declared.error.ReadError.TheVariants.{Memory, Refused}
 use Rattle.dimacs.specs.declared.formula.Formula.{Formula}
 use Rattle.dimacs.specs.declared.reader.Reader as reader
-use Rattle.dimacs.specs.Text.{Answer, Contents, fault, lines, plain, headed, text_says, Limits}
-use Rattle.dimacs.specs.Progress.{done, means, ends, Says, Faults, Halts}
+use Rattle.dimacs.specs.Text.{Answer, Contents, fault, lines, plain, headed, text_says}
+use Rattle.dimacs.specs.Progress.{means, ends, Faults, Halts}
 use Rattle.dimacs.specs.Results.{contents, ReadAs, GivesBack}
 use Rattle.dimacs.specs.Written.{Within, written}
 use Rattle.dimacs.proofs.Within.{said_within}
 use Rattle.dimacs.proofs.Written.{reads_back}
 
 -- a text that was written from a list says it
-pub said_back : (space : ℕ) (text : List ℕ) (c : Contents) → text_says space text ≡ Ok c → (n : ℕ) (cs : List (List ℕ)) → Within space n cs → text ≡ written n cs → c ≡ record { nets = n; clauses = cs }
+said_back : (space : ℕ) (text : List ℕ) (c : Contents) → text_says space text ≡ Ok c → (n : ℕ) (cs : List (List ℕ)) → Within space n cs → text ≡ written n cs → c ≡ record { nets = n; clauses = cs }
 said_back space text c a n cs w e = let b = sym a ∙ ap (text_says space) e ∙ reads_back space n cs w in cc
 
 -- reading gives back what was written, since it gives what the text says
@@ -47,12 +45,6 @@ module _ (space : ℕ) (text : List ℕ) (short : length text ≤ 60000) where
         says_is ∙ ap (λ ls. headed space (length ls) (plain 1 ls)) (sym q) ∙ ap (λ k. headed space k (plain 1 taken)) (sym n)
         ∙ ap (λ ls. headed space r.line (plain 1 ls)) (sym (append-nil taken)) ∙ says space r.line []
 
-  module _ (s : Clauses) (a : Answer) (is : text_says space text ≡ a) (said : Says a s) where
-    pub exact : text_says space text ≡ Ok (record { nets = s.problem.nets; clauses = done s })
-    exact = is ∙ said.answer
-
-    pub within : Limits space (record { nets = s.problem.nets; clauses = done s })
-    within = said_within space text _ exact
-
-    pub well_formed : well s.problem.nets (vec_items s.words) ≡ true
-    well_formed = ap (well s.problem.nets) (sym s.exact) ∙ well-encode s.problem.nets (done s) within.good
+  pub read_whole : (r : Result Formula ReadError) (a : Answer) → text_says space text ≡ a → results.IfOk r (λ f. a ≡ Ok (contents f)) → results.IfErr r (Faults a) → ReadAs space text r
+  read_whole (Ok f) a e ok err = let q = e ∙ ok in (q, said_within space text _ q)
+  read_whole (Err x) a e ok err = read-fault x (subst (λ z. Faults z x) (sym e) err)

@@ -1,5 +1,5 @@
 -- What a text says is within the limits. Assumes nothing.
-use Rattle.std.proofs.Common.{◌≡◌, ℕ, ◌+◌, ◌*◌, ◌/◌, ◌<◌, ◌≤◌, min, Bool, true, false, cond, ◌&&◌, eqb, ltb, leb, List, [], ◌∷◌, length, Some, None, Ok, Err, Option, Result, sym, refl, ap, ◌∙◌, subst, arith}
+use Rattle.std.proofs.Common.{◌≡◌, ℕ, ◌+◌, ◌*◌, ◌/◌, ◌<◌, ◌≤◌, min, Bool, true, false, cond, ◌&&◌, eqb, ltb, leb, List, [], ◌∷◌, ◌++◌, length, length-append, Some, None, Ok, Err, Option, Result, sym, refl, ap, ◌∙◌, subst, arith}
 use Rattle.std.proofs.lemmas.Bool.{and_parts, and_from, leb-true, le-leb, eqb-true, eqb-false}
 use Rattle.std.proofs.lemmas.Bool.Decides.{nat_tests}
 use Rattle.std.specs.Option.{option_map}
@@ -8,7 +8,7 @@ use Rattle.faults.specs.declared.SheetFault.TheVariants.{NoSuchVariable, TooMany
 use Rattle.faults.specs.declared.Fault.{Fault}
 use Rattle.faults.specs.declared.Fault.TheVariants.{Reader, Sheet}
 use Rattle.faults.specs.declared.Located.{Located}
-use Rattle.cnf.specs.Truth.{inside}
+use Rattle.cnf.specs.Truth.{named, inside}
 use Rattle.cnf.specs.Words.{encode, good, goods}
 use Rattle.dimacs.specs.declared.problem.Problem.{Problem}
 use Rattle.dimacs.specs.Numbers.{glue, cut, numeral, positive, negative, number}
@@ -58,6 +58,19 @@ judged-good n k t (Some d) c q e = go (ltb n (d / 2)) refl (ltb 0 d && leb 64 k)
     go false p false r e =
         let h : d ≡ c = cc in
         subst (Judged n k) h (record { known = grind (arith, nat_tests); room = λ l. grind (arith, nat_tests); coded = number_coded t d q })
+
+inside_more : (n c : ℕ) (now : List ℕ) → inside n now ≡ true → named n c ≡ true → inside n (now ++ c ∷ []) ≡ true
+inside_more n c [] h g = and_from _ _ g refl
+inside_more n c (d ∷ now) h g = let p = and_parts (named n d) (inside n now) h in and_from _ _ p.0 (inside_more n c now p.1 g)
+
+-- a literal that is judged good goes on with a good clause
+pub judged_more : (n : ℕ) (now token : List ℕ) (c : ℕ) → good n now ≡ true → judged n (length now) (number token) ≡ Ok c → 0 < c → good n (now ++ c ∷ []) ≡ true
+judged_more n now token c g e lt =
+    let j = judged-good n (length now) token (number token) c refl e in
+    let p = and_parts (leb (length now) 64) (inside n now) g in
+    let low : 2 ≤ c = grind (arith, j.coded) in
+    and_from _ _ (le-leb _ _ (omega (arith, length-append now (c ∷ []), j.room lt)))
+    (inside_more n c now p.1 (and_from _ _ (le-leb 2 c low) (le-leb c (2 * n + 1) (omega (arith, j.known)))))
 
 -- the first piece goes on with a clause of k literals, the others are whole
 record Pieces (n k : ℕ) (p : List ℕ) (ps : List (List ℕ)) : Type 0 where

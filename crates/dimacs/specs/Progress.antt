@@ -49,10 +49,6 @@ abbrev pub Faults : Answer → ReadError → Type 0
 Faults a Memory = Unit {0}
 Faults a (Refused l) = a ≡ Err l
 
--- the answer is these clauses
-pub record Says (a : Answer) (s : Clauses) : Type 0 where
-  pub answer : a ≡ Ok (record { nets = s.problem.nets; clauses = done s })
-
 -- numbers were read, whatever follows them
 pub record Reads (s : Clauses) (ts : List Placed) (t : Clauses) : Type 0 where
   pub says : (space end : ℕ) (more : List Placed) → numbers_say s space end (ts ++ more) ≡ numbers_say t space end more

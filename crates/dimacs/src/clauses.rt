@@ -1,8 +1,9 @@
 // The clauses of a text, as they come behind the header.
-ghost use Rattle.std.specs.Prelude.{◌≡◌, ◌<◌, ◌≤◌, length};
-ghost use Rattle.cnf.specs.Words.{encode, read};
+ghost use Rattle.std.specs.Prelude.{◌≡◌, ◌<◌, ◌≤◌, true, length};
+ghost use Rattle.cnf.specs.Words.{good, read, well};
 
 use crate::error::{ReadError, refused};
+use crate::formula::Formula;
 use crate::limits::{MOST_LITERALS, MOST_WORDS};
 use crate::number::read_number;
 use crate::problem::Problem;
@@ -18,16 +19,17 @@ pub(crate) struct Clauses {
     pub(crate) count: usize,
     pub(crate) current: Vec<u16>,
     ghost few: { problem.nets ≤ 2000 },
-    ghost exact: { encode (read words.items) ≡ words.items },
+    ghost form: { well problem.nets words.items ≡ true },
     ghost counted: { count ≡ length (read words.items) },
-    ghost short: { length current.items ≤ 64 },
+    ghost open_form: { good problem.nets current.items ≡ true },
 }
 
 impl Clauses {
-    ghost use Rattle.std.specs.Prelude.{[], ◌∷◌, OnOk, IfErr, IfOk};
+    ghost use Rattle.std.specs.Prelude.{[], ◌∷◌, ◌++◌, Ok, OnOk, IfErr, IfOk};
     ghost use Rattle.dimacs.specs.Numbers.{number};
-    ghost use Rattle.dimacs.specs.Text.{Placed, placed, words, judged, body};
-    ghost use Rattle.dimacs.specs.Progress.{done, current_with, done_with, numbers_say, Reads, Stops, Says, Faults};
+    ghost use Rattle.dimacs.specs.Text.{placed, words, judged};
+    ghost use Rattle.dimacs.specs.Results.{contents};
+    ghost use Rattle.dimacs.specs.Progress.{done, current_with, done_with, numbers_say, Reads, Stops, Faults};
 
     pub(crate) fn new(heap: Global, problem: Problem) -> Clauses
         requires { problem.nets ≤ 2000 }
@@ -76,7 +78,7 @@ impl Clauses {
 
     // Takes one code more: 0 ends the current clause.
     fn take(&mut self, code: u16) -> Result<(), ReadError>
-        requires { 0 < code → length self.old.current.items < 64 }
+        requires { 0 < code → good self.old.problem.nets (self.old.current.items ++ code ∷ []) ≡ true }
         ensures problem { self.new.problem ≡ self.old.problem }
         ensures closed { OnOk result (done self.new ≡ done_with (done self.old) self.old.current.items code) }
         ensures current { OnOk result (self.new.current.items ≡ current_with self.old.current.items code) }
@@ -114,9 +116,9 @@ impl Clauses {
 
     // Judges the text at its end, which is on this line: no clause is open, there are as many as
     // declared, and their words fit the store space.
-    pub(crate) fn judge_end(&self, space: usize, line: usize) -> Result<(), ReadError>
-        ensures ok { OnOk result (Says (numbers_say self.now space line []) self.now) }
-        ensures err { IfErr result (Faults (numbers_say self.now space line [])) }
+    pub(crate) fn finish(self, space: usize, line: usize) -> Result<Formula, ReadError>
+        ensures ok { IfOk result (λ f. numbers_say self space line [] ≡ Ok (contents f)) }
+        ensures err { IfErr result (Faults (numbers_say self space line [])) }
     {
         if !self.current.is_empty() || self.count != self.problem.clauses as usize {
             return Err(refused(line, ReaderFault::ClauseCount.into()));
@@ -124,6 +126,16 @@ impl Clauses {
         if self.words.len() > space.min(MOST_WORDS) {
             return Err(refused(line, SheetFault::StoreFull.into()));
         }
-        Ok(())
+        let Clauses {
+            problem,
+            words,
+            count,
+            current: _,
+        } = self;
+        Ok(Formula {
+            nets: problem.nets as usize,
+            count,
+            words,
+        })
     }
 }

@@ -14,7 +14,6 @@ mod number;
 mod problem;
 mod reader;
 
-use clauses::Clauses;
 use error::ReadError;
 use faults::ReaderFault;
 use formula::Formula;
@@ -34,15 +33,5 @@ pub fn read(heap: Global, text: &[u8], space: usize) -> Result<Formula, ReadErro
     for line in text.split(|b| *b == b'\n') {
         reader.take_line(line)?;
     }
-    let Clauses {
-        problem,
-        words,
-        count,
-        current: _,
-    } = reader.finish(space)?;
-    Ok(Formula {
-        nets: problem.nets as usize,
-        count,
-        words,
-    })
+    reader.finish(space)
 }

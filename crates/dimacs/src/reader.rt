@@ -1,9 +1,11 @@
 // The reader: one line of the text after the other.
-ghost use Rattle.std.specs.Prelude.{◌≡◌, ◌+◌, ◌<◌, ◌≤◌, None, [], ◌∷◌, OnOk, IfOk, IfErr};
-ghost use Rattle.dimacs.specs.Progress.{ends, means, Goes, Halts, Says, Faults, Headed};
+ghost use Rattle.std.specs.Prelude.{◌≡◌, ◌+◌, ◌<◌, ◌≤◌, None, Ok, OnOk, IfOk, IfErr};
+ghost use Rattle.dimacs.specs.Results.{contents};
+ghost use Rattle.dimacs.specs.Progress.{ends, Goes, Halts, Faults, Headed};
 
 use crate::clauses::Clauses;
 use crate::error::{ReadError, refused};
+use crate::formula::Formula;
 use crate::header::read_header;
 use crate::limits::{MOST_CLAUSES, MOST_NETS};
 use crate::problem::Problem;
@@ -66,15 +68,18 @@ impl Reader {
     }
 
     // All lines are read: judges the whole.
-    pub(crate) fn finish(self, space: usize) -> Result<Clauses, ReadError>
-        ensures ok { IfOk result (Says (ends self space)) }
+    pub(crate) fn finish(self, space: usize) -> Result<Formula, ReadError>
+        ensures ok { IfOk result (λ f. ends self space ≡ Ok (contents f)) }
         ensures err { IfErr result (Faults (ends self space)) }
     {
-        let Reader { heap: _, line, clauses } = self;
-        let Some(clauses) = clauses else {
-            return Err(refused(line, ReaderFault::HeaderForm.into()));
-        };
-        clauses.judge_end(space, line)?;
-        Ok(clauses)
+        let Reader {
+            heap: _,
+            line,
+            clauses,
+        } = self;
+        match clauses {
+            Some(clauses) => clauses.finish(space, line),
+            None => Err(refused(line, ReaderFault::HeaderForm.into())),
+        }
     }
 }

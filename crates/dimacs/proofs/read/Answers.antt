@@ -1,14 +1,13 @@
-use Rattle.std.proofs.Common.{◌≤◌, ◌∷◌, length, sym, ap, ◌∙◌, subst, arith, rules, tests}
+use Rattle.std.proofs.Common.{◌≤◌, ◌∷◌, length, sym, ap, ◌∙◌, arith, rules, tests}
 use Rattle.std.proofs.lemmas.Result.{err_from_is_err_and}
 use Rattle.std.proofs.lemmas.Iterator.Consumers.{YieldsList-at, YieldsList-turn, YieldsList-end}
 use Rattle.std.proofs.lemmas.Iterator.Splits.{YieldsList-from_slice_split}
 use Rattle.std.proofs.lemmas.List.{length_push, length-map}
 use Rattle.dimacs.specs.Numbers.{is_feed}
 use Rattle.dimacs.specs.Text.{plain, headed}
-use Rattle.dimacs.specs.Progress.{Faults}
 use Rattle.dimacs.specs.Results.{ReadAs}
 use Rattle.dimacs.proofs.Roads.{split_cut, length-split, item_at, now_more}
-use Rattle.dimacs.proofs.Readings.{said_back, gives_back, read-fault, halted, ended_is, exact, within, well_formed}
+use Rattle.dimacs.proofs.Readings.{gives_back, read-fault, halted, ended_is, read_whole}
 use Rattle.dimacs.proofs.read.Goals as goal
 
 pub take_line-requires : goal.take_line-requires
@@ -35,39 +34,12 @@ returns-in_err-take_line c =
     (halted c.args.space c.args.text.now short c.loop-line.reader _ c.loop-line.invariant.says c.in-Some.line.now i.0 _ (sym (split_cut is_feed c.args.text.now) ∙ i.1) c.in_err-take_line.ensures.err)) in
     record { exact = e; back = gives_back c.args.space c.args.text.now c.from_residual.result e }
 
-pub returns-in_err-problem : goal.returns-in_err-problem
-returns-in_err-problem c =
-    let p = err_from_is_err_and c.from_residual-in_err-problem.result c.from_residual-in_err-problem.ensures.1 in
-    let e = YieldsList-end (YieldsList-at c.into_iter-line-iterator.ensures.into_iter_gives (YieldsList-from_slice_split _ is_feed c.args.text.now c.split-line-items.ensures.rest c.split-line-items.ensures.done c.split-line-items.ensures.closure (λ x r q k. search (rules, tests))))
-    c.loop-line.yielded _ c.loop-line.yielded_by _ _ c.in-None.is c.next.ensures.steps in
-    let is = ended_is c.args.space c.args.text.now (omega arith) c.loop-line.reader _ c.loop-line.invariant.says (e.0 ∙ split_cut is_feed c.args.text.now)
-    (c.loop-line.invariant.counted ∙ sym (length-map c.loop-line.yielded (λ x. x.now))) in
-    let e : ReadAs c.args.space c.args.text.now c.from_residual-in_err-problem.result = rw (p.1, p.2) (read-fault c.args.space c.args.text.now (omega arith) _
-    (subst (λ a. Faults a c.in_err-problem.field-0.0) (sym is) c.in_err-problem.ensures.err)) in
-    record { exact = e; back = gives_back c.args.space c.args.text.now c.from_residual-in_err-problem.result e }
-
-pub invariant_of-result : goal.invariant_of-result
-invariant_of-result c =
-    let s = c.in_ok-problem.field-0 in
-    let e = YieldsList-end (YieldsList-at c.into_iter-line-iterator.ensures.into_iter_gives (YieldsList-from_slice_split _ is_feed c.args.text.now c.split-line-items.ensures.rest c.split-line-items.ensures.done c.split-line-items.ensures.closure (λ x r q k. search (rules, tests))))
-    c.loop-line.yielded _ c.loop-line.yielded_by _ _ c.in-None.is c.next.ensures.steps in
-    let is = ended_is c.args.space c.args.text.now (omega arith) c.loop-line.reader _ c.loop-line.invariant.says (e.0 ∙ split_cut is_feed c.args.text.now)
-    (c.loop-line.invariant.counted ∙ sym (length-map c.loop-line.yielded (λ x. x.now))) in
-    record {
-      few = s.few;
-      form = well_formed c.args.space c.args.text.now (omega arith) s _ is c.in_ok-problem.ensures.ok;
-      counted = s.counted;
-    }
-
 pub returns : goal.returns
 returns c =
-    let s = c.in_ok-problem.field-0 in
-    let e = YieldsList-end (YieldsList-at c.into_iter-line-iterator.ensures.into_iter_gives (YieldsList-from_slice_split _ is_feed c.args.text.now c.split-line-items.ensures.rest c.split-line-items.ensures.done c.split-line-items.ensures.closure (λ x r q k. search (rules, tests))))
+    let short : length c.args.text.now ≤ 60000 = omega arith in
+    let all = YieldsList-end (YieldsList-at c.into_iter-line-iterator.ensures.into_iter_gives (YieldsList-from_slice_split _ is_feed c.args.text.now c.split-line-items.ensures.rest c.split-line-items.ensures.done c.split-line-items.ensures.closure (λ x r q k. search (rules, tests))))
     c.loop-line.yielded _ c.loop-line.yielded_by _ _ c.in-None.is c.next.ensures.steps in
-    let is = ended_is c.args.space c.args.text.now (omega arith) c.loop-line.reader _ c.loop-line.invariant.says (e.0 ∙ split_cut is_feed c.args.text.now)
+    let is = ended_is c.args.space c.args.text.now short c.loop-line.reader _ c.loop-line.invariant.says (all.0 ∙ split_cut is_feed c.args.text.now)
     (c.loop-line.invariant.counted ∙ sym (length-map c.loop-line.yielded (λ x. x.now))) in
-    let e = exact c.args.space c.args.text.now (omega arith) s _ is c.in_ok-problem.ensures.ok in
-    record {
-      exact = (e, within c.args.space c.args.text.now (omega arith) s _ is c.in_ok-problem.ensures.ok);
-      back = said_back c.args.space c.args.text.now _ e;
-    }
+    let e = read_whole c.args.space c.args.text.now short c.finish.result _ is c.finish.ensures.ok c.finish.ensures.err in
+    record { exact = e; back = gives_back c.args.space c.args.text.now c.finish.result e }

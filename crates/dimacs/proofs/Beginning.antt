@@ -32,11 +32,15 @@ module _ (r : Reader) (l : List ℕ) (before : r.clauses ≡ None) (first : is_c
   means_is space end ls = ap (λ o. lines_say o space end (plain (r.line + 1) (l ∷ ls))) before ∙ ap (headed space end) (plain_first (r.line + 1) l ls first)
 
   pub headed_goes : (q : Reader) (p : Problem) (s : Clauses) → q.line ≡ r.line + 1 → q.clauses ≡ Some s → s.problem ≡ p → vec_items s.words ≡ [] → vec_items s.current ≡ [] → Headed (r.line + 1) l (Ok p) → Goes r l q
-  headed_goes q p s n k a b c h = record { says = λ space end ls.
-      let more : List Placed = plain (r.line + 1 + 1) ls in
-      means_is space end ls ∙ h (λ x. body x space end more) ∙ body_says s p space end more a b c
-      ∙ sym (ap (λ o. lines_say o space end (plain (q.line + 1) ls)) k ∙ ap (λ i. numbers_say s space end (tokens (plain (i + 1) ls))) n) }
+  headed_goes q p s n k a b c h = record {
+    says = λ space end ls.
+        let more : List Placed = plain (r.line + 1 + 1) ls in
+        means_is space end ls ∙ h (λ x. body x space end more) ∙ body_says s p space end more a b c
+        ∙ sym (ap (λ o. lines_say o space end (plain (q.line + 1) ls)) k ∙ ap (λ i. numbers_say s space end (tokens (plain (i + 1) ls))) n);
+  }
 
   pub headed_halts : (e : ReadError) → Headed (r.line + 1) l (Err e) → Halts r l e
-  headed_halts e h = record { faults = λ space end ls.
-      subst (λ a. Faults a e) (sym (means_is space end ls)) (h (λ p. body p space end (plain (r.line + 1 + 1) ls))) }
+  headed_halts e h = record {
+    faults = λ space end ls.
+        subst (λ a. Faults a e) (sym (means_is space end ls)) (h (λ p. body p space end (plain (r.line + 1 + 1) ls)));
+  }

@@ -6,7 +6,7 @@ pub mod Keeping
 pub mod Within
 pub mod Ending
 pub mod Taking
-pub mod Roads
-pub mod Headings
+pub mod Splitting
+pub mod Pairs
 pub mod Beginning
 pub mod Readings

@@ -32,15 +32,17 @@ opened_is now c =
 -- a number was taken
 pub took : (s t : Clauses) (line : ℕ) (token : List ℕ) (c : ℕ) → judged s.problem.nets (length (vec_items s.current)) (number token) ≡ Ok c → t.problem ≡ s.problem
     → done t ≡ done_with (done s) (vec_items s.current) c → vec_items t.current ≡ current_with (vec_items s.current) c → Reads s (placed line token ∷ []) t
-took s t line token c j p d e = record { says = λ space end more.
-    let now : List ℕ = vec_items s.current in
-    let k : ℕ = length now in
-    ap (λ x. ended_from s.problem space end (done s) now (behind line x (λ v. codes s.problem.nets (opened k v) more))) j
-    ∙ ended_more s.problem space end (done s) now c (codes s.problem.nets (opened k c) more)
-    ∙ ap (λ n. ended_from s.problem space end (done_with (done s) now c) (current_with now c) (codes s.problem.nets n more)) (opened_is now c)
-    ∙ ap (λ q. ended_from q space end (done_with (done s) now c) (current_with now c) (codes q.nets (length (current_with now c)) more)) (sym p)
-    ∙ ap (λ l. ended_from t.problem space end l (current_with now c) (codes t.problem.nets (length (current_with now c)) more)) (sym d)
-    ∙ ap (λ l. ended_from t.problem space end (done t) l (codes t.problem.nets (length l) more)) (sym e) }
+took s t line token c j p d e = record {
+  says = λ space end more.
+      let now : List ℕ = vec_items s.current in
+      let k : ℕ = length now in
+      ap (λ x. ended_from s.problem space end (done s) now (behind line x (λ v. codes s.problem.nets (opened k v) more))) j
+      ∙ ended_more s.problem space end (done s) now c (codes s.problem.nets (opened k c) more)
+      ∙ ap (λ n. ended_from s.problem space end (done_with (done s) now c) (current_with now c) (codes s.problem.nets n more)) (opened_is now c)
+      ∙ ap (λ q. ended_from q space end (done_with (done s) now c) (current_with now c) (codes q.nets (length (current_with now c)) more)) (sym p)
+      ∙ ap (λ l. ended_from t.problem space end l (current_with now c) (codes t.problem.nets (length (current_with now c)) more)) (sym d)
+      ∙ ap (λ l. ended_from t.problem space end (done t) l (codes t.problem.nets (length l) more)) (sym e);
+}
 
 pub took_if : (r : Result (Unit {0}) ReadError) (s t : Clauses) (line : ℕ) (token : List ℕ) (c : ℕ) → judged s.problem.nets (length (vec_items s.current)) (number token) ≡ Ok c → t.problem ≡ s.problem
     → OnOk r (done t ≡ done_with (done s) (vec_items s.current) c) → OnOk r (vec_items t.current ≡ current_with (vec_items s.current) c) → OnOk r (Reads s (placed line token ∷ []) t)
@@ -48,15 +50,19 @@ took_if (Ok u) s t line token c j p d e = took s t line token c j p d e
 took_if (Err x) s t line token c j p d e = tt
 
 pub reads_more : (s t u : Clauses) (ts us : List Placed) → Reads s ts t → Reads t us u → Reads s (ts ++ us) u
-reads_more s t u ts us a b = record { says = λ space end more.
-    ap (numbers_say s space end) (append_assoc ts us more) ∙ a.says space end (us ++ more) ∙ b.says space end more }
+reads_more s t u ts us a b = record {
+  says = λ space end more.
+      ap (numbers_say s space end) (append_assoc ts us more) ∙ a.says space end (us ++ more) ∙ b.says space end more;
+}
 
 -- numbers are read, and then one has a fault
 pub stops_later : (s t : Clauses) (ts us vs : List Placed) (e : ReadError) → Reads s ts t → Stops t us e → Stops s (ts ++ (us ++ vs)) e
-stops_later s t ts us vs e a b = record { faults = λ space end more.
-    subst (λ x. Faults x e)
-    (sym (ap (numbers_say s space end) (append_assoc ts (us ++ vs) more ∙ ap (λ x. ts ++ x) (append_assoc us vs more)) ∙ a.says space end (us ++ (vs ++ more))))
-    (b.faults space end (vs ++ more)) }
+stops_later s t ts us vs e a b = record {
+  faults = λ space end more.
+      subst (λ x. Faults x e)
+      (sym (ap (numbers_say s space end) (append_assoc ts (us ++ vs) more ∙ ap (λ x. ts ++ x) (append_assoc us vs more)) ∙ a.says space end (us ++ (vs ++ more))))
+      (b.faults space end (vs ++ more));
+}
 
 pub stops_at : (s t : Clauses) (line : ℕ) (all xs later : List (List ℕ)) (x : List ℕ) (e : ReadError) → all ≡ xs ++ x ∷ later → Reads s (map (placed line) xs) t → Stops t (placed line x ∷ []) e → Stops s (map (placed line) all) e
 stops_at s t line all xs later x e q a b =

@@ -21,7 +21,7 @@ pub(crate) struct Clauses {
     ghost few: { problem.nets ≤ 2000 },
     ghost form: { well problem.nets words.items ≡ true },
     ghost counted: { count ≡ length (read words.items) },
-    ghost open_form: { good problem.nets current.items ≡ true },
+    ghost current_form: { good problem.nets current.items ≡ true },
 }
 
 impl Clauses {
@@ -47,7 +47,8 @@ impl Clauses {
 
     // The code of a number in the current clause, or why it has none.
     fn judge(&self, token: &[u8]) -> Result<u16, Fault>
-        ensures { result ≡ judged self.now.problem.nets (length self.now.current.items) (number token.now) }
+        ensures { result
+            ≡ judged self.now.problem.nets (length self.now.current.items) (number token.now) }
     {
         let code = read_number(token).ok_or(ReaderFault::MalformedNumber)?;
         if code / 2 > self.problem.nets {
@@ -62,7 +63,8 @@ impl Clauses {
     // Ends the current clause.
     fn close(&mut self) -> Result<(), ReadError>
         ensures problem { self.new.problem ≡ self.old.problem }
-        ensures closed { OnOk result (done self.new ≡ done_with (done self.old) self.old.current.items 0) }
+        ensures closed { OnOk result
+            (done self.new ≡ done_with (done self.old) self.old.current.items 0) }
         ensures current { OnOk result (self.new.current.items ≡ []) }
         ensures err { IfErr result (λ e. e ≡ ReadError.Memory) }
     {
@@ -78,10 +80,13 @@ impl Clauses {
 
     // Takes one code more: 0 ends the current clause.
     fn take(&mut self, code: u16) -> Result<(), ReadError>
-        requires { 0 < code → good self.old.problem.nets (self.old.current.items ++ code ∷ []) ≡ true }
+        requires { 0 < code
+            → good self.old.problem.nets (self.old.current.items ++ code ∷ []) ≡ true }
         ensures problem { self.new.problem ≡ self.old.problem }
-        ensures closed { OnOk result (done self.new ≡ done_with (done self.old) self.old.current.items code) }
-        ensures current { OnOk result (self.new.current.items ≡ current_with self.old.current.items code) }
+        ensures closed { OnOk result
+            (done self.new ≡ done_with (done self.old) self.old.current.items code) }
+        ensures current { OnOk result
+            (self.new.current.items ≡ current_with self.old.current.items code) }
         ensures err { IfErr result (λ e. e ≡ ReadError.Memory) }
     {
         if code == 0 {

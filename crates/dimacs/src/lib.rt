@@ -21,7 +21,8 @@ use limits::MOST_BYTES;
 use reader::Reader;
 use std::alloc::Global;
 
-// Reads a text for a sheet with this many words of store space: all clauses, or the text's first fault.
+// Reads a text for a sheet with this many words of store space: all clauses, or the text's first
+// fault.
 pub fn read(heap: Global, text: &[u8], space: usize) -> Result<Formula, ReadError>
     ensures exact { ReadAs space text.now result }
     ensures back { (n : ℕ) (cs : List (List ℕ)) → Within space n cs → text.now ≡ written n cs → GivesBack n cs result }

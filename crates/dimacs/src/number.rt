@@ -28,7 +28,8 @@ pub(crate) fn read_numeral(text: &[u8]) -> Option<u32>
     Some(value)
 }
 
-// The code that a number of a clause says: 0 at a clause's end, and a variable's opposite behind a minus.
+// The code that a number of a clause says: 0 at a clause's end, and a variable's opposite behind
+// a minus.
 pub(crate) fn read_number(text: &[u8]) -> Option<u32>
     ensures { result ≡ number text.now }
 {

@@ -4,9 +4,9 @@ use Rattle.std.proofs.lemmas.Iterator.Consumers.{YieldsList-at, YieldsList-turn,
 use Rattle.std.proofs.lemmas.Iterator.Splits.{YieldsList-from_slice_split}
 use Rattle.std.proofs.lemmas.List.{length_push, length-map}
 use Rattle.dimacs.specs.Numbers.{is_feed}
-use Rattle.dimacs.specs.Text.{plain, headed}
+use Rattle.dimacs.specs.Text.{lines, plain, headed}
 use Rattle.dimacs.specs.Results.{ReadAs}
-use Rattle.dimacs.proofs.Roads.{split_cut, length-split, item_at, now_more}
+use Rattle.dimacs.proofs.Splitting.{split_cut, length-split, item_at, now_more}
 use Rattle.dimacs.proofs.Readings.{gives_back, read-fault, halted, ended_is, read_whole}
 use Rattle.dimacs.proofs.read.Goals as goal
 
@@ -29,9 +29,9 @@ returns-in_err-take_line c =
     let short : length c.args.text.now ≤ 60000 = omega arith in
     let p = err_from_is_err_and c.from_residual.result c.from_residual.ensures.1 in
     let i = item_at (YieldsList-at c.into_iter-line-iterator.ensures.into_iter_gives (YieldsList-from_slice_split _ is_feed c.args.text.now c.split-line-items.ensures.rest c.split-line-items.ensures.done c.split-line-items.ensures.closure (λ x r q k. search (rules, tests))))
-    c.loop-line.yielded _ c.next.new.self c.in-Some.line c.loop-line.yielded_by c.in-Some.ensures.steps in
+    (lines c.args.text.now) (split_cut is_feed c.args.text.now) c.loop-line.yielded c.loop-line.line-iterator c.next.new.self c.in-Some.line c.loop-line.yielded_by c.in-Some.ensures.steps in
     let e : ReadAs c.args.space c.args.text.now c.from_residual.result = rw (p.1, p.2) (read-fault c.args.space c.args.text.now short _
-    (halted c.args.space c.args.text.now short c.loop-line.reader _ c.loop-line.invariant.says c.in-Some.line.now i.0 _ (sym (split_cut is_feed c.args.text.now) ∙ i.1) c.in_err-take_line.ensures.err)) in
+    (halted c.args.space c.args.text.now short c.loop-line.reader _ c.loop-line.invariant.says c.in-Some.line.now i.0 _ i.1 c.in_err-take_line.ensures.err)) in
     record { exact = e; back = gives_back c.args.space c.args.text.now c.from_residual.result e }
 
 pub returns : goal.returns

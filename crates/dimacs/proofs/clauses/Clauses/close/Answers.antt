@@ -13,10 +13,10 @@ invariant_of-self-2 c =
     (rw c.unwrap-2.ensures at c.extend_from_slice.ensures.items) c.deref.ensures.value (c.len-len.ensures ∙ s.current.ok.0) in
     record {
       few = s.few;
-      form = well_push s.problem.nets s.words.items s.current.items _ s.form s.open_form v;
+      form = well_push s.problem.nets s.words.items s.current.items _ s.form s.current_form v;
       counted = sym (ap length (read_push s.problem.nets s.words.items s.current.items _ s.form v) ∙ length-append (read s.words.items) (s.current.items ∷ [])
           ∙ ap (λ x. x + 1) (sym s.counted));
-      open_form = search rules;
+      current_form = search rules;
     }
 
 pub returns-clause-closed : goal.returns-clause-closed

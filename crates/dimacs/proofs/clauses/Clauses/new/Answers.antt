@@ -9,5 +9,5 @@ invariant_of-result c =
       few = c.requires;
       form = ap (well c.args.problem.nets) c.new.ensures.items ∙ well-nil c.args.problem.nets;
       counted = sym (ap length (ap read c.new.ensures.items ∙ read-nil));
-      open_form = search rules;
+      current_form = search rules;
     }

@@ -2,10 +2,10 @@ use Rattle.std.proofs.Common.{map, sym, ◌∙◌, subst, rules, tests}
 use Rattle.std.proofs.lemmas.Result.{err_from_is_err_and}
 use Rattle.std.proofs.lemmas.Iterator.Consumers.{YieldsList-from_filter, YieldsList-at, YieldsList-end}
 use Rattle.std.proofs.lemmas.Iterator.Splits.{YieldsList-from_slice_split}
-use Rattle.dimacs.specs.Numbers.{is_blank}
+use Rattle.dimacs.specs.Numbers.{is_blank, cut, filled}
 use Rattle.dimacs.specs.Text.{placed}
 use Rattle.dimacs.specs.Progress.{Reads}
-use Rattle.dimacs.proofs.Roads.{is_filled, words_cut, item_at, placed_more}
+use Rattle.dimacs.proofs.Splitting.{is_filled, words_cut, item_at, placed_more}
 use Rattle.dimacs.proofs.Taking.{reads_more, stops_at}
 use Rattle.dimacs.proofs.clauses.Clauses.take_line.Goals as goal
 
@@ -28,5 +28,5 @@ returns-in_err-take_number-clause-err c =
     let i = item_at (YieldsList-at c.into_iter-token-iterator.ensures.into_iter_gives (YieldsList-from_filter _ is_filled (YieldsList-at c.filter-tokens.ensures.source
     (YieldsList-from_slice_split _ is_blank c.args.text.now c.split.ensures.rest c.split.ensures.done c.split.ensures.closure (λ x r q k. search (rules, tests))))
     c.filter-tokens.ensures.closure (λ x r q k. search (rules, tests))))
-    c.loop-token.yielded _ c.next.new.self c.in-Some.token c.loop-token.yielded_by c.in-Some.ensures.steps in
-    rw (p.1, p.2) (stops_at c.args.self.now c.loop-token.self c.args.line _ _ i.0 c.in-Some.token.now _ (sym (words_cut is_blank c.args.text.now) ∙ i.1) c.loop-token.invariant c.in_err-take_number.ensures.err)
+    (filled (cut is_blank c.args.text.now)) (words_cut is_blank c.args.text.now) c.loop-token.yielded c.loop-token.token-iterator c.next.new.self c.in-Some.token c.loop-token.yielded_by c.in-Some.ensures.steps in
+    rw (p.1, p.2) (stops_at c.args.self.now c.loop-token.self c.args.line _ _ i.0 c.in-Some.token.now _ i.1 c.loop-token.invariant c.in_err-take_number.ensures.err)

@@ -1,4 +1,4 @@
--- What the iterators of the reader give. Assumes nothing.
+-- What `split` gives, piece by piece. Assumes nothing.
 use Rattle.std.proofs.Common.{◌≡◌, ℕ, suc, ◌+◌, ◌≤◌, Bool, cond, not, eqb, List, [], ◌∷◌, ◌++◌, map, length, Some, None, Option, sym, refl, ap, ◌∙◌, append_assoc, arith, ne_eqb, Bor}
 use Rattle.std.specs.List.{slice_split, onto_first, filter}
 use Rattle.std.specs.Iterator.{Yields, AlwaysYields}
@@ -46,12 +46,12 @@ module _ {S A B : Type 0} (steps : S → Option A → S → Type 0) (v : A → B
   went (y ∷ ys) t u x e p = (ys, ap (λ w. w ∷ ys) (sym (e.1 x u p).0), (e.1 x u p).1)
 
 -- the item that comes, behind those that came
-pub item_at : {S A B : Type 0} {steps : S → Option A → S → Type 0} {v : A → B} {s : S} {all : List B} → YieldsList steps v s all
+pub item_at : {S A B : Type 0} {steps : S → Option A → S → Type 0} {v : A → B} {s : S} {parts : List B} → YieldsList steps v s parts → (all : List B) → parts ≡ all
     → (xs : List A) (t u : S) (x : A) → Yields steps s xs t → steps t (Some x) u → (later : List B) × (all ≡ map v xs ++ v x ∷ later)
-item_at {S} {A} {B} {steps} {v} {s} {all} e xs t u x y p =
-    let k = gives_left steps v xs all s t e.runs y in
+item_at {S} {A} {B} {steps} {v} {s} {parts} e all q xs t u x y p =
+    let k = gives_left steps v xs parts s t e.runs y in
     let w = went steps v k.0 t u x k.2 p in
-    (w.0, k.1 ∙ ap (λ l. map v xs ++ l) w.1)
+    (w.0, sym q ∙ k.1 ∙ ap (λ l. map v xs ++ l) w.1)
 
 pub placed_more : (line : ℕ) (xs : List (Bor (List ℕ))) (x : Bor (List ℕ))
     → map (placed line) (map (λ y. y.now) (xs ++ x ∷ [])) ≡ map (placed line) (map (λ y. y.now) xs) ++ placed line x.now ∷ []

@@ -1,4 +1,4 @@
--- The two words of a header line, as an iterator gives them. Assumes nothing.
+-- The two numbers of a header line, as an iterator gives their words. Assumes nothing.
 use Rattle.std.proofs.Common.{◌≡◌, ℕ, Bool, true, false, List, [], ◌∷◌, Some, None, Option, refl, ap, ◌∙◌, subst, Bor}
 use Rattle.std.specs.List.{slice_split, filter}
 use Rattle.std.specs.Iterator.{AlwaysYields}
@@ -6,7 +6,7 @@ use Rattle.std.specs.Option.{is_some}
 use Rattle.std.proofs.lemmas.Iterator.{YieldsList}
 use Rattle.dimacs.specs.Numbers.{cut, filled, numeral}
 use Rattle.dimacs.specs.Text.{both, pair}
-use Rattle.dimacs.proofs.Roads.{is_filled, words_cut, went, ended}
+use Rattle.dimacs.proofs.Splitting.{is_filled, words_cut, went, ended}
 
 both_none : (o : Option ℕ) → both o None ≡ None
 both_none None = refl

@@ -1,12 +1,10 @@
 -- The two numbers of a header line, as an iterator gives their words. Assumes nothing.
 use Rattle.std.proofs.Common.{◌≡◌, ℕ, Bool, true, false, List, [], ◌∷◌, Some, None, Option, refl, ap, ◌∙◌, subst, Bor}
-use Rattle.std.specs.List.{slice_split, filter}
 use Rattle.std.specs.Iterator.{AlwaysYields}
 use Rattle.std.specs.Option.{is_some}
-use Rattle.std.proofs.lemmas.Iterator.{YieldsList}
 use Rattle.dimacs.specs.Numbers.{cut, filled, numeral}
 use Rattle.dimacs.specs.Text.{both, pair}
-use Rattle.dimacs.proofs.Splitting.{is_filled, words_cut, went, ended}
+use Rattle.dimacs.proofs.Splitting.{Words, words_cut, went, ended}
 
 both_none : (o : Option ℕ) → both o None ≡ None
 both_none None = refl
@@ -20,10 +18,6 @@ pair_bad n (m ∷ l ∷ ls) e = refl
 pair_bad_second : (n m : List ℕ) (ls : List (List ℕ)) → numeral m ≡ None → pair (n ∷ m ∷ ls) ≡ None
 pair_bad_second n m [] e = ap (both (numeral n)) e ∙ both_none (numeral n)
 pair_bad_second n m (l ∷ ls) e = refl
-
--- the words between the bytes with q, as an iterator gives them from s on
-pub record Words {S : Type 0} (steps : S → Option (Bor (List ℕ)) → S → Type 0) (s : S) (q : ℕ → Bool) (text : List ℕ) : Type 0 where
-  pub road : YieldsList steps (λ y. y.now) s (filter is_filled (slice_split q text))
 
 module _ {S : Type 0} {steps : S → Option (Bor (List ℕ)) → S → Type 0} {s : S} (q : ℕ → Bool) (text : List ℕ) where
   left : Words steps s q text → AlwaysYields steps (λ y. y.now) s (filled (cut q text))

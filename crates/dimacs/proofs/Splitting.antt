@@ -1,9 +1,15 @@
 -- What `split` gives, piece by piece. Assumes nothing.
-use Rattle.std.proofs.Common.{◌≡◌, ℕ, suc, ◌+◌, ◌≤◌, Bool, cond, not, eqb, List, [], ◌∷◌, ◌++◌, map, length, Some, None, Option, sym, refl, ap, ◌∙◌, append_assoc, arith, ne_eqb, Bor}
+use Rattle.std.proofs.Common.{◌≡◌, ℕ, suc, ◌+◌, ◌≤◌, Bool, false, cond, not, eqb, List, [], ◌∷◌, ◌++◌, map, length, Some, None, Option, sym, refl, ap, ◌∙◌, append_assoc, arith, ne_eqb, Bor}
 use Rattle.std.specs.List.{slice_split, onto_first, filter}
+use Rattle.std.specs.Slice.Iter as slice
+use Rattle.std.specs.Fn.{CalledAt}
 use Rattle.std.specs.Iterator.{Yields, AlwaysYields}
+use Rattle.std.specs.Iterator.Adapters.{filter_source, filter_callee, filter_steps}
+use denote.Param.Members.{Mut}
 use Rattle.std.proofs.iter.Yields.{gives_left}
 use Rattle.std.proofs.lemmas.Iterator.{YieldsList}
+use Rattle.std.proofs.lemmas.Iterator.Consumers.{YieldsList-from_filter, YieldsList-at}
+use Rattle.std.proofs.lemmas.Iterator.Splits.{YieldsList-from_slice_split}
 use Rattle.std.proofs.lemmas.List.{map-append}
 use Rattle.std.proofs.lemmas.List.Splits.{length-slice_split}
 use Rattle.std.proofs.lemmas.List.Sums.{count_by-le-length}
@@ -59,3 +65,14 @@ placed_more line xs x = ap (map (placed line)) (map-append (λ y. y.now) xs (x �
 
 pub now_more : (xs : List (Bor (List ℕ))) (x : Bor (List ℕ)) (ls : List (List ℕ)) → map (λ y. y.now) (xs ++ x ∷ []) ++ ls ≡ map (λ y. y.now) xs ++ x.now ∷ ls
 now_more xs x ls = ap (λ ps. ps ++ ls) (map-append (λ y. y.now) xs (x ∷ [])) ∙ append_assoc (map (λ y. y.now) xs) (x.now ∷ []) ls
+
+-- the pieces that are not empty, as an iterator gives them from s on
+pub record Words {S : Type 0} (steps : S → Option (Bor (List ℕ)) → S → Type 0) (s : S) (q : ℕ → Bool) (text : List ℕ) : Type 0 where
+  pub road : YieldsList steps (λ y. y.now) s (filter is_filled (slice_split q text))
+
+-- what the clauses of `split` and `filter` say, with the tests that their closures compute
+pub split_words : {F H : Type 0} (g : Mut F (Bor ℕ × Unit {0}) Bool) (h : Mut H (Bor (Bor (List ℕ)) × Unit {0}) Bool) (q : ℕ → Bool) (text : List ℕ) {f : F} {k : H} {s : _} {t : _}
+    → slice.split_rest s ≡ text → slice.split_done s ≡ false → slice.split_callee s ≡ f → ((x : ℕ) (b : Bool) (p : F) → CalledAt g f x b p → (p ≡ f) × (b ≡ q x))
+    → filter_source t ≡ s → filter_callee t ≡ k → ((x : Bor (List ℕ)) (b : Bool) (p : H) → CalledAt h k x b p → (p ≡ k) × (b ≡ is_filled x.now)) → Words (filter_steps (slice.split_steps g) h) t q text
+split_words g h q text rest done closure tests source predicate filled =
+    record { road = YieldsList-from_filter h is_filled (YieldsList-at source (YieldsList-from_slice_split g q text rest done closure tests)) predicate filled }

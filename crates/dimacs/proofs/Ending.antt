@@ -1,6 +1,7 @@
 -- A text at its end. Assumes nothing.
 use Rattle.std.proofs.Common.{◌≡◌, ℕ, ◌<◌, ◌≤◌, min, cond, leb, List, [], ◌∷◌, ◌++◌, length, Some, None, Ok, ap, ◌∙◌, append-nil, arith, eq-eqb, ne_eqb, le-leb, refl}
 use borrow.Author.Tests.{lt-leb}
+use Rattle.std.proofs.lemmas.List.{nil_from_length}
 use Rattle.std.specs.Option.{option_map}
 use Rattle.faults.specs.declared.ReaderFault.TheVariants.{ClauseCount}
 use Rattle.faults.specs.declared.SheetFault.TheVariants.{StoreFull}
@@ -8,7 +9,6 @@ use Rattle.faults.specs.declared.Fault.TheVariants.{Reader, Sheet}
 use Rattle.cnf.specs.Words.{encode}
 use Rattle.dimacs.specs.declared.problem.Problem.{Problem}
 use Rattle.dimacs.specs.Text.{Answer, fault, closed, finished}
-use Rattle.dimacs.proofs.Keeping.{nothing}
 use Rattle.dimacs.proofs.Written.{closed_more, closed_all}
 
 -- a last clause that is open
@@ -26,7 +26,7 @@ module _ (p : Problem) (space line : ℕ) (cs : List (List ℕ)) (now : List ℕ
   end_open lt = ap (λ x. finished p space line (closed (cs ++ x ∷ []))) (append-nil now) ∙ ap (finished p space line) (closed_open cs now lt)
 
   end_closed : length now ≡ 0 → at_end ≡ finished p space line (Some cs)
-  end_closed z = ap (λ x. finished p space line (closed (cs ++ x ∷ []))) (append-nil now ∙ nothing now z) ∙ ap (finished p space line) (closed_all cs)
+  end_closed z = ap (λ x. finished p space line (closed (cs ++ x ∷ []))) (append-nil now ∙ nil_from_length now z) ∙ ap (finished p space line) (closed_all cs)
 
   pub end_count : length now ≡ 0 → (length cs ≡ p.clauses → ⊥) → at_end ≡ fault line (Reader ClauseCount)
   end_count z ne =

@@ -39,7 +39,3 @@ well_push n ws c vs f g v = ap (well n) (words_push n ws c vs f v) ∙ well-enco
 -- a count is pushed, and then the codes
 pub pushed : (ws rs us vs c s : List ℕ) (n : ℕ) → rs ≡ ws → us ≡ rs ++ n ∷ [] → vs ≡ us ++ s → s ≡ c → n ≡ length c → vs ≡ (ws ++ length c ∷ []) ++ c
 pushed ws rs us vs c s n r a b d e = cc
-
-pub nothing : (xs : List ℕ) → length xs ≡ 0 → xs ≡ []
-nothing [] e = refl
-nothing (x ∷ xs) e = absurd (omega arith)

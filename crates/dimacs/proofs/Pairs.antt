@@ -47,14 +47,14 @@ module _ {S : Type 0} {steps : S → Option (Bor (List ℕ)) → S → Type 0} {
       bad_second e w = let f = second w in ap pair f.1 ∙ pair_bad_second n.now m.now f.0 e
 
       pub three_words : (v : S) (o : Option (Bor (List ℕ))) → steps u o v → is_some o ≡ true → Words steps s q text → pair (filled (cut q text)) ≡ None
-      three_words v None k e w = absurd (cc)
+      three_words v None k e w = cc
       three_words v (Some o) k e w =
           let f = second w in
           ap pair (f.1 ∙ ap (λ ws. n.now ∷ m.now ∷ ws) (went steps (λ y. y.now) f.0 u v o f.2 k).1)
 
       pub two_words : (v : S) (o : Option (Bor (List ℕ))) → steps u o v → is_some o ≡ false → (a b : ℕ) → numeral n.now ≡ Some a → numeral m.now ≡ Some b
           → Words steps s q text → pair (filled (cut q text)) ≡ Some (record { nets = a; clauses = b })
-      two_words v (Some o) k z a b d e w = absurd (cc)
+      two_words v (Some o) k z a b d e w = cc
       two_words v None k z a b d e w =
           let f = second w in
           ap pair (f.1 ∙ ap (λ ws. n.now ∷ m.now ∷ ws) (ended steps (λ y. y.now) f.0 u v f.2 k)) ∙ ap (λ c. both c (numeral m.now)) d ∙ ap (both (Some a)) e

@@ -1,5 +1,5 @@
 -- What a reading gives. Assumes nothing.
-use Rattle.std.proofs.Common.{◌≡◌, ℕ, ◌≤◌, cond, List, [], ◌∷◌, ◌++◌, length, Ok, Err, Result, sym, ap, ◌∙◌, subst, append-nil, arith, le-leb}
+use Rattle.std.proofs.Common.{◌≡◌, ℕ, ◌≤◌, cond, List, [], ◌∷◌, ◌++◌, length, Ok, Err, Result, sym, ap, ◌∙◌, subst, append-nil, le-leb}
 use Rattle.std.specs.Result as results
 use Rattle.faults.specs.declared.ReaderFault.TheVariants.{TextTooLong}
 use Rattle.faults.specs.declared.Fault.TheVariants.{Reader}
@@ -23,7 +23,7 @@ pub gives_back : (space : ℕ) (text : List ℕ) (r : Result Formula ReadError) 
 gives_back space text (Ok f) a n cs w e = said_back space text (contents f) a.0 n cs w e
 gives_back space text (Err Memory) a n cs w e = tt
 gives_back space text (Err (Refused l)) a n cs w e =
-    let b = sym a ∙ ap (text_says space) e ∙ reads_back space n cs w in let z : ◌≡◌ {A = ℕ} 0 1 = cc in omega arith
+    let b = sym a ∙ ap (text_says space) e ∙ reads_back space n cs w in cc
 
 module _ (space : ℕ) (text : List ℕ) (short : length text ≤ 60000) where
   says_is : text_says space text ≡ headed space (length (lines text)) (plain 1 (lines text))

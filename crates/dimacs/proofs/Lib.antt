@@ -1,12 +1,12 @@
-pub mod Numbers
 pub mod Cutting
 pub mod Pieces
 pub mod Spelling
 pub mod Written
 pub mod Keeping
-pub mod Bytes
-pub mod Stepping
-pub mod Arms
-pub mod Ending
 pub mod Within
+pub mod Ending
+pub mod Taking
+pub mod Splitting
+pub mod Pairs
+pub mod Beginning
 pub mod Readings

@@ -1,5 +1,5 @@
 pub mod Numbers
 pub mod Text
 pub mod Written
-pub mod Machine
+pub mod Progress
 pub mod Results

@@ -2,7 +2,7 @@
 ghost use Rattle.std.specs.Prelude.{◌≡◌};
 ghost use Rattle.dimacs.specs.declared.error.ReadError.TheVariants.{Memory};
 
-use faults::Located;
+use faults::{Fault, Located};
 use std::alloc::{AllocError, AllocFailed};
 
 #[derive(Clone, Copy, PartialEq, Eq, Debug)]
@@ -27,4 +27,11 @@ impl From<AllocFailed<u16>> for ReadError {
     fn from(_e: AllocFailed<u16>) -> ReadError {
         ReadError::Memory
     }
+}
+
+// The refusal of a text for a fault on one of its lines.
+pub(crate) fn refused(line: usize, fault: Fault) -> ReadError
+    ensures { result ≡ ReadError.Refused (record { line = line; fault = fault }) }
+{
+    ReadError::Refused(Located { line, fault })
 }

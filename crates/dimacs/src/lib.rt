@@ -9,41 +9,30 @@ mod clauses;
 pub mod error;
 pub mod formula;
 mod header;
+mod limits;
 mod number;
 mod problem;
 mod reader;
 
-use clauses::Clauses;
 use error::ReadError;
 use faults::ReaderFault;
 use formula::Formula;
+use limits::MOST_BYTES;
 use reader::Reader;
 use std::alloc::Global;
 
-// The longest text, in bytes.
-const MOST_BYTES: usize = 60_000;
-
-// Reads a text for a sheet with this many words of store space: all clauses, or the text's first fault.
+// Reads a text for a sheet with this many words of store space: all clauses, or the text's first
+// fault.
 pub fn read(heap: Global, text: &[u8], space: usize) -> Result<Formula, ReadError>
     ensures exact { ReadAs space text.now result }
     ensures back { (n : ℕ) (cs : List (List ℕ)) → Within space n cs → text.now ≡ written n cs → GivesBack n cs result }
 {
     if text.len() > MOST_BYTES {
-        return Err(reader::refused(1, ReaderFault::TextTooLong));
+        return Err(error::refused(1, ReaderFault::TextTooLong.into()));
     }
-    let mut reader = Reader::new(heap, text, space);
-    for b in text {
-        reader.step(*b)?;
+    let mut reader = Reader::new(heap);
+    for line in text.split(|b| *b == b'\n') {
+        reader.take_line(line)?;
     }
-    let (problem, clauses) = reader.finish()?;
-    let Clauses {
-        words,
-        count,
-        current: _,
-    } = clauses;
-    Ok(Formula {
-        nets: problem.nets as usize,
-        count,
-        words,
-    })
+    reader.finish(space)
 }

@@ -1,11 +1,10 @@
-use Rattle.std.proofs.Common.{◌≡◌, length}
-use Rattle.dimacs.specs.Text.{headed, lines, plain}
-use Rattle.dimacs.specs.Machine.{Sane, meaning}
+use Rattle.std.proofs.Common.{◌≡◌, ℕ, List, ◌++◌, map, length}
+use Rattle.dimacs.specs.Text.{plain, headed}
+use Rattle.dimacs.specs.Progress.{means}
 use Rattle.dimacs.proofs.read.Given as goal
 
-abbrev pub invariant-loop-b : goal.invariant-loop-b
-invariant-loop-b l =
-    Sane l.reader
-    × (l.reader.pos ≡ l.b-index)
-    × (l.reader.text.now ≡ l.text)
-    × (meaning l.reader ≡ headed l.space (length (lines l.text)) (plain 1 (lines l.text)))
+abbrev pub invariant-loop-line : goal.invariant-loop-line
+invariant-loop-line l = record {
+  counted : l.reader.line ≡ length l.yielded;
+  says : (space end : ℕ) (ls : List (List ℕ)) → headed space end (plain 1 (map (λ x. x.now) l.yielded ++ ls)) ≡ means l.reader space end ls;
+}

@@ -1,24 +1,27 @@
-use Rattle.std.proofs.Common.{ℕ, ◌+◌, List, [], ◌∷◌, length, vec_items, sym, ap, ◌∙◌, arith, length-append}
-use Rattle.cnf.specs.Words.{encode, read}
-use Rattle.dimacs.proofs.Keeping.{pushed, words_push, read_push}
+use Rattle.std.proofs.Common.{◌+◌, [], ◌∷◌, length, sym, ap, ◌∙◌, arith, rules, length-append}
+use Rattle.cnf.specs.Words.{read}
+use Rattle.dimacs.proofs.Keeping.{pushed, well_push, read_push, read-length}
 use Rattle.dimacs.proofs.clauses.Clauses.close.Goals as goal
 
-pub returns : goal.returns
-returns c =
-    let ws : List ℕ = vec_items c.args.self.now.words in
-    let now : List ℕ = vec_items c.args.self.now.current in
-    let vs : List ℕ = vec_items c.extend_from_slice.new.self in
-    let v = pushed ws (vec_items c.push.new.self) vs now c.deref.result.now c.len-len.result
-    c.in_ok-push.ensures.items c.in_ok-extend_from_slice.ensures.items c.deref.ensures.value
-    (c.len-len.ensures ∙ c.args.self.now.current.ok.0) in
-    let r = read_push ws now vs c.requires.0.exact v in
+pub overflow_add-self : goal.overflow_add-self
+overflow_add-self c = let s = c.args.self.now in omega (arith, read-length s.problem.nets s.words.items s.form)
+
+pub invariant_of-self-2 : goal.invariant_of-self-2
+invariant_of-self-2 c =
+    let s = c.args.self.now in
+    let v = pushed s.words.items _ _ _ s.current.items _ c.len-len.result c.in_ok-reserve.ensures.items (rw c.unwrap.ensures at c.push.ensures.items)
+    (rw c.unwrap-2.ensures at c.extend_from_slice.ensures.items) c.deref.ensures.value (c.len-len.ensures ∙ s.current.ok.0) in
     record {
-      kept = record {
-        exact = ap encode r ∙ sym (words_push ws now vs c.requires.0.exact v);
-        counted = sym (ap length r ∙ length-append (read ws) (now ∷ []) ∙ ap (λ x. x + 1) (sym c.requires.0.counted));
-        few = omega (arith, ap length c.clear.ensures.items);
-      };
-      closed = r;
-      current = c.clear.ensures.items;
-      counts = omega arith;
+      few = s.few;
+      form = well_push s.problem.nets s.words.items s.current.items _ s.form s.current_form v;
+      counted = sym (ap length (read_push s.problem.nets s.words.items s.current.items _ s.form v) ∙ length-append (read s.words.items) (s.current.items ∷ [])
+          ∙ ap (λ x. x + 1) (sym s.counted));
+      current_form = search rules;
     }
+
+pub returns-clause-closed : goal.returns-clause-closed
+returns-clause-closed c =
+    let s = c.args.self.now in
+    read_push s.problem.nets s.words.items s.current.items _ s.form
+    (pushed s.words.items _ _ _ s.current.items _ c.len-len.result c.in_ok-reserve.ensures.items (rw c.unwrap.ensures at c.push.ensures.items)
+    (rw c.unwrap-2.ensures at c.extend_from_slice.ensures.items) c.deref.ensures.value (c.len-len.ensures ∙ s.current.ok.0))

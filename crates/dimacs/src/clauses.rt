@@ -4,9 +4,9 @@ ghost use Rattle.cnf.specs.Words.{good, read, well};
 
 use crate::error::{ReadError, refused};
 use crate::formula::Formula;
-use crate::limits::{MOST_LITERALS, MOST_WORDS};
 use crate::number::read_number;
 use crate::problem::Problem;
+use cnf::limits::{MAX_LITERALS, MAX_WORDS};
 use faults::{Fault, ReaderFault, SheetFault};
 use std::alloc::Global;
 
@@ -54,7 +54,7 @@ impl Clauses {
         if code / 2 > self.problem.nets {
             return Err(SheetFault::NoSuchVariable.into());
         }
-        if code > 0 && self.current.len() >= MOST_LITERALS {
+        if code > 0 && self.current.len() >= MAX_LITERALS {
             return Err(SheetFault::TooManyLiterals.into());
         }
         Ok(code as u16)
@@ -128,7 +128,7 @@ impl Clauses {
         if !self.current.is_empty() || self.count != self.problem.clauses as usize {
             return Err(refused(line, ReaderFault::ClauseCount.into()));
         }
-        if self.words.len() > space.min(MOST_WORDS) {
+        if self.words.len() > space.min(MAX_WORDS) {
             return Err(refused(line, SheetFault::StoreFull.into()));
         }
         let Clauses {

@@ -17,7 +17,7 @@ mod reader;
 use error::ReadError;
 use faults::ReaderFault;
 use formula::Formula;
-use limits::MOST_BYTES;
+use limits::MAX_BYTES;
 use reader::Reader;
 use std::alloc::Global;
 
@@ -27,7 +27,7 @@ pub fn read(heap: Global, text: &[u8], space: usize) -> Result<Formula, ReadErro
     ensures exact { ReadAs space text.now result }
     ensures back { (n : ℕ) (cs : List (List ℕ)) → Within space n cs → text.now ≡ written n cs → GivesBack n cs result }
 {
-    if text.len() > MOST_BYTES {
+    if text.len() > MAX_BYTES {
         return Err(error::refused(1, ReaderFault::TextTooLong.into()));
     }
     let mut reader = Reader::new(heap);

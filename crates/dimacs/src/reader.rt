@@ -7,8 +7,9 @@ use crate::clauses::Clauses;
 use crate::error::{ReadError, refused};
 use crate::formula::Formula;
 use crate::header::read_header;
-use crate::limits::{MOST_CLAUSES, MOST_NETS};
+use crate::limits::MAX_CLAUSES;
 use crate::problem::Problem;
+use cnf::limits::MAX_NETS;
 use faults::ReaderFault;
 use std::alloc::Global;
 
@@ -28,7 +29,7 @@ fn take_header(text: &[u8], line: usize) -> Result<Problem, ReadError>
     let Some(problem) = read_header(text) else {
         return Err(refused(line, ReaderFault::HeaderForm.into()));
     };
-    if problem.nets > MOST_NETS || problem.clauses > MOST_CLAUSES {
+    if problem.nets as usize > MAX_NETS || problem.clauses > MAX_CLAUSES {
         return Err(refused(line, ReaderFault::HeaderLimit.into()));
     }
     Ok(problem)

@@ -1,5 +1,5 @@
 // The representative table: entry v is the representative of the literal 2v.
-ghost use Rattle.std.specs.Prelude.{◌≡◌, ℕ, ◌+◌, ◌/◌, ◌<◌, ◌≤◌, length, IfOk, vec_len, MatchResult};
+ghost use Rattle.std.specs.Prelude.{◌≡◌, ℕ, ◌+◌, ◌/◌, ◌<◌, ◌≤◌, length, vec_len, MatchResult};
 ghost use Rattle.cnf.specs.Truth.{opp};
 ghost use Rattle.cnf.specs.Table.{rep, fresh, looked, kind_at};
 ghost use Rattle.cnf.specs.Open.{Refuses};
@@ -8,7 +8,7 @@ use crate::kind::Kind;
 use crate::literal::{opposite, variable};
 use crate::open::OpenError;
 use faults::SheetFault;
-use std::alloc::{AllocError, Global};
+use std::alloc::Global;
 
 // The most nets that a table holds.
 const MAX_NETS: usize = 2000;
@@ -26,10 +26,12 @@ pub fn representative(entries: &[u16], code: u16) -> u16
 }
 
 // The entries with which each literal represents itself.
-fn own_entries(heap: Global, nets: usize) -> Result<Vec<u16>, AllocError>
-    requires { nets ≤ 2000 }
-    ensures { IfOk result (λ v. (v.items ≡ fresh nets) × (vec_len v ≡ nets + 1)) }
+pub fn own_entries(heap: Global, nets: usize) -> Result<Vec<u16>, OpenError>
+    ensures { MatchResult result (λ v. (nets ≤ 2000) × (v.items ≡ fresh nets)) (Refuses nets) }
 {
+    if nets > MAX_NETS {
+        return Err(OpenError::Refused(SheetFault::TooManyNets));
+    }
     let mut entries = Vec::with_capacity(heap, nets + 1)?;
     for v in 0..nets + 1 {
         entries.push_reserved((2 * v) as u16);
@@ -53,11 +55,9 @@ impl Table {
     pub fn fresh(heap: Global, nets: usize) -> Result<Table, OpenError>
         ensures { MatchResult result (λ t. (nets ≤ 2000) × (t.entries.items ≡ fresh nets)) (Refuses nets) }
     {
-        if nets > MAX_NETS {
-            return Err(OpenError::Refused(SheetFault::TooManyNets));
-        }
-        let entries = own_entries(heap, nets)?;
-        Ok(Table { entries })
+        Ok(Table {
+            entries: own_entries(heap, nets)?,
+        })
     }
 
     // How many nets it has.

@@ -4,7 +4,5 @@ use Rattle.cnf.proofs.table.own_entries.Goals as goal
 
 pub loop-v-preserved : goal.loop-v-preserved
 loop-v-preserved c =
-    let e = c.push_reserved.ensures.items in
-    let i = c.loop-v.invariant.0 in
     let m = fresh_more c.loop-v.v in
     ((cc), omega arith, omega (arith, c.push_reserved.ensures.capacity))

@@ -1,7 +1,6 @@
 // Opening a sheet by its number of nets.
-ghost use Rattle.std.specs.Prelude.{◌≡◌, ◌+◌, ◌≤◌, min, [], IfOk, vec_len, MatchResult};
+ghost use Rattle.std.specs.Prelude.{◌≡◌, ◌≤◌, min, [], vec_len, MatchResult};
 ghost use Rattle.cnf.specs.Open.{Refuses};
-ghost use Rattle.cnf.specs.Table.{fresh};
 ghost use Rattle.sheet.specs.Of.{state_of};
 ghost use Rattle.sheet.specs.Calls.{opened};
 ghost use Rattle.sheet.specs.Laws.{Fits};
@@ -9,29 +8,14 @@ ghost use Rattle.sheet.specs.Laws.{Fits};
 use crate::Sheet;
 use classes::scratch::Scratch;
 use cnf::open::OpenError;
-use faults::SheetFault;
-use std::alloc::{AllocError, Global};
-
-// The most nets of a sheet.
-const MAX_NETS: usize = 2000;
+use cnf::table::own_entries;
+use std::alloc::Global;
 
 // Why a sheet was not opened, with the store space that was handed over.
 #[derive(Drop)]
 pub struct Unopened {
     pub error: OpenError,
     pub space: Vec<u16>,
-}
-
-// The entries of a table in which each literal represents itself.
-fn own_entries(heap: Global, nets: usize) -> Result<Vec<u16>, AllocError>
-    requires { nets ≤ 2000 }
-    ensures { IfOk result (λ v. (v.items ≡ fresh nets) × (vec_len v ≡ nets + 1)) }
-{
-    let mut entries = Vec::with_capacity(heap, nets + 1)?;
-    for v in 0..nets + 1 {
-        entries.push_reserved((2 * v) as u16);
-    }
-    Ok(entries)
 }
 
 impl Sheet {
@@ -52,12 +36,10 @@ impl Sheet {
     fn set_aside(heap: Global, nets: usize) -> Result<Sheet, OpenError>
         ensures { MatchResult result (λ s. (nets ≤ 2000) × (state_of s ≡ opened nets 0) × (s.used ≡ 0)) (Refuses nets) }
     {
-        if nets > MAX_NETS {
-            return Err(OpenError::Refused(SheetFault::TooManyNets));
-        }
-        let size = nets + 1;
+        let table = own_entries(heap, nets)?;
+        let size = table.len();
         Ok(Sheet {
-            table: own_entries(heap, nets)?,
+            table,
             words: Vec::new(heap),
             used: 0,
             waiting: vec![in heap; false; size]?,

@@ -46,28 +46,28 @@ turns_other t u v k n =
     (⊎_elim (λ (l : get_or t v 0 < 2). kind_fixed t v 0 n l) (λ (l : 2 ≤ get_or t v 0). kind_tied t v 0 n l) (cases_lt (get_or t v 0) 2))
 
 -- the counts below v
-pub record Counts (t u : List ℕ) (v fixed tied : ℕ) : Type 0 where
+pub record Counted (t u : List ℕ) (v fixed tied : ℕ) : Type 0 where
   pub of_fixed : fixed ≡ below (turns 1 t u) v
   pub of_tied : tied ≡ below (turns 2 t u) v
 
-counts_more : (t u : List ℕ) (v x y x' y' : ℕ) (b c : Bool) → Counts t u v x y → turns 1 t u v ≡ b → turns 2 t u v ≡ c → x' ≡ x + cond b 1 0 → y' ≡ y + cond c 1 0 → Counts t u (v + 1) x' y'
+counts_more : (t u : List ℕ) (v x y x' y' : ℕ) (b c : Bool) → Counted t u v x y → turns 1 t u v ≡ b → turns 2 t u v ≡ c → x' ≡ x + cond b 1 0 → y' ≡ y + cond c 1 0 → Counted t u (v + 1) x' y'
 counts_more t u v x y x' y' b c w p q e f = record {
   of_fixed = e ∙ ap (λ n. n + cond b 1 0) w.of_fixed ∙ ap (λ z. below (turns 1 t u) v + cond z 1 0) (sym p) ∙ sym (below_more (turns 1 t u) v);
   of_tied = f ∙ ap (λ n. n + cond c 1 0) w.of_tied ∙ ap (λ z. below (turns 2 t u) v + cond z 1 0) (sym q) ∙ sym (below_more (turns 2 t u) v);
 }
 
-module _ (t u : List ℕ) (v x y x' y' : ℕ) (w : Counts t u v x y) where
-  pub counts_fixed : get_or t v 0 ≡ 2 * v → (get_or u v 0 ≡ 2 * v → ⊥) → get_or u v 0 < 2 → x' ≡ x + 1 → y' ≡ y → Counts t u (v + 1) x' y'
+module _ (t u : List ℕ) (v x y x' y' : ℕ) (w : Counted t u v x y) where
+  pub counts_fixed : get_or t v 0 ≡ 2 * v → (get_or u v 0 ≡ 2 * v → ⊥) → get_or u v 0 < 2 → x' ≡ x + 1 → y' ≡ y → Counted t u (v + 1) x' y'
   counts_fixed e n l p q = counts_more t u v x y x' y' true false w (turns_fixed t u v 1 e n l) (turns_fixed t u v 2 e n l) p (omega arith)
 
-  pub counts_tied : get_or t v 0 ≡ 2 * v → (get_or u v 0 ≡ 2 * v → ⊥) → 2 ≤ get_or u v 0 → x' ≡ x → y' ≡ y + 1 → Counts t u (v + 1) x' y'
+  pub counts_tied : get_or t v 0 ≡ 2 * v → (get_or u v 0 ≡ 2 * v → ⊥) → 2 ≤ get_or u v 0 → x' ≡ x → y' ≡ y + 1 → Counted t u (v + 1) x' y'
   counts_tied e n l p q = counts_more t u v x y x' y' false true w (turns-tied t u v 1 e n l) (turns-tied t u v 2 e n l) (omega arith) q
 
-  pub counts_free : get_or t v 0 ≡ 2 * v → get_or u v 0 ≡ 2 * v → x' ≡ x → y' ≡ y → Counts t u (v + 1) x' y'
+  pub counts_free : get_or t v 0 ≡ 2 * v → get_or u v 0 ≡ 2 * v → x' ≡ x → y' ≡ y → Counted t u (v + 1) x' y'
   counts_free e f p q = counts_more t u v x y x' y' false false w (turns_free t u v 1 e f) (turns_free t u v 2 e f) (omega arith) (omega arith)
 
-  pub counts_other : (get_or t v 0 ≡ 2 * v → ⊥) → x' ≡ x → y' ≡ y → Counts t u (v + 1) x' y'
+  pub counts_other : (get_or t v 0 ≡ 2 * v → ⊥) → x' ≡ x → y' ≡ y → Counted t u (v + 1) x' y'
   counts_other n p q = counts_more t u v x y x' y' false false w (turns_other t u v 1 n) (turns_other t u v 2 n) (omega arith) (omega arith)
 
-pub counts_few : (t u : List ℕ) (v x y : ℕ) → Counts t u v x y → (x ≤ v) × (y ≤ v)
+pub counts_few : (t u : List ℕ) (v x y : ℕ) → Counted t u v x y → (x ≤ v) × (y ≤ v)
 counts_few t u v x y w = (omega (arith, w.of_fixed, below_few (turns 1 t u) v), omega (arith, w.of_tied, below_few (turns 2 t u) v))

@@ -10,6 +10,7 @@ use Rattle.cnf.specs.Table.{by}
 use Rattle.propagation.specs.Propagate.{Rewritten, rewritten, Leaves}
 use Rattle.propagation.specs.Laws.{Lasts, Outcome}
 use Rattle.propagation.proofs.Keeping.{rewriting_keeps}
+use Rattle.sheet.specs.declared.outcome.Counts.{Counts}
 use Rattle.sheet.specs.declared.outcome.Outcome.TheVariants.{Contradiction, Settled}
 use Rattle.sheet.specs.declared.sheet.Sheet.{Sheet}
 use Rattle.sheet.specs.State.{State, Sound}
@@ -97,14 +98,14 @@ over_some s (Some r) t was words next part n f l e p q lp =
     (omega (arith, lw ∙ ap length p, within_words _ _ _ _ k, lp))
     (λ _. refl) (k.marked ∙ sym size))
 
-pub answer_some : (s u : State) (o : Option Rewritten) (next part : List ℕ) (n : ℕ) (p : ℕ × ℕ) → Fine s o → Leaves o next part (Some n) → u ≡ landed s o
-    → p.0 ≡ newly 1 s.table next → p.1 ≡ newly 2 s.table next → Settled p ≡ outcome s u
+pub answer_some : (s u : State) (o : Option Rewritten) (next part : List ℕ) (n : ℕ) (p : Counts) → Fine s o → Leaves o next part (Some n) → u ≡ landed s o
+    → p.fixed ≡ newly 1 s.table next → p.tied ≡ newly 2 s.table next → Settled p ≡ outcome s u
 answer_some s u None next part n p f l e a b = absurd (let n : ◌≡◌ {A = ℕ} 0 1 = (let k = l in cc) in omega arith)
 answer_some s u (Some r) next part n p f l e a b =
-    let x : p.0 ≡ newly 1 s.table r.table = a ∙ ap (newly 1 s.table) l.1 in
-    let y : p.1 ≡ newly 2 s.table r.table = b ∙ ap (newly 2 s.table) l.1 in
-    ap (λ i. Settled (i, p.1)) x ∙ ap (λ i. Settled (newly 1 s.table r.table, i)) y
-    ∙ sym (ap (outcome s) e ∙ ap (λ c. cond c Contradiction (Settled (newly 1 s.table r.table, newly 2 s.table r.table))) (pending_whole r.clauses f.rest))
+    let x : p.fixed ≡ newly 1 s.table r.table = a ∙ ap (newly 1 s.table) l.1 in
+    let y : p.tied ≡ newly 2 s.table r.table = b ∙ ap (newly 2 s.table) l.1 in
+    ap (λ i. Settled (record { fixed = i; tied = p.tied })) x ∙ ap (λ i. Settled (record { fixed = newly 1 s.table r.table; tied = i })) y
+    ∙ sym (ap (outcome s) e ∙ ap (λ c. cond c Contradiction (Settled (record { fixed = newly 1 s.table r.table; tied = newly 2 s.table r.table }))) (pending_whole r.clauses f.rest))
 
 -- the same rewriting, of equal spaces
 pub leaves_same : (found : Bool) (e e' t t' ws ws' u v : List ℕ) (r : Option ℕ) → e ≡ e' → t ≡ t' → ws ≡ ws' → Leaves (cond found (rewritten (by e) t (read ws)) None) u v r

@@ -110,7 +110,7 @@ module _ (s : State) (w : Sound s) (sat : Satisfied s.store) (p : Rewritten) (e 
   verdict_some : Sweeps s (rested (landed s (Some p))) (Ok (outcome s (rested (landed s (Some p)))))
   verdict_some =
       let u : State = rested (landed s (Some p)) in
-      let pair : Answer = Settled (newly 1 s.table p.table, newly 2 s.table p.table) in
+      let pair : Answer = Settled (record { fixed = newly 1 s.table p.table; tied = newly 2 s.table p.table }) in
       subst (λ b. Sweeps s u (Ok (cond b Contradiction pair))) (sym (pending_whole p.clauses l.rest))
       (λ h f. (
         (λ a. ((λ m. (l.same a).0 ((f a).0 m)), (λ st. (f a).1 ((l.same a).1 st)))),

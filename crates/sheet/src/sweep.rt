@@ -9,7 +9,7 @@ ghost use Rattle.sheet.specs.Sweep.{Ready, Serves};
 ghost use Rattle.sheet.specs.Laws.{Sweeps};
 
 use crate::store::empty;
-use crate::{Outcome, Sheet};
+use crate::{Counts, Outcome, Sheet};
 use classes::group::sweep_group;
 use faults::SheetFault;
 use propagation::propagate::rewrite;
@@ -20,29 +20,31 @@ fn reset(entries: &mut [u16])
     requires { length entries.old ≤ 2001 }
     ensures { (v : ℕ) → v < length entries.new → slice_index entries.new v ≡ 2 * v }
 {
-    for v in 0..entries.len() {
-        entries[v] = (2 * v) as u16;
+    for (v, entry) in entries.iter_mut().enumerate() {
+        *entry = (2 * v) as u16;
     }
 }
 
 // How many variables that are free by the first table are fixed, and how many are tied, by the second.
-fn count(before: &[u16], after: &[u16]) -> (usize, usize)
-    requires { (length after.now ≡ length before.now) × (length before.now ≤ 2001) }
-    ensures { (result.0 ≡ newly 1 before.now after.now) × (result.1 ≡ newly 2 before.now after.now) }
+fn count(before: &[u16], after: &[u16]) -> Counts
+    requires same_size { length after.now ≡ length before.now }
+    requires small { length before.now ≤ 2001 }
+    ensures fixed { result.fixed ≡ newly 1 before.now after.now }
+    ensures tied { result.tied ≡ newly 2 before.now after.now }
 {
-    let mut fixed = 0;
-    let mut tied = 0;
-    for v in 0..before.len() {
-        let free = before[v] as usize == 2 * v;
-        if free && after[v] as usize != 2 * v {
-            if after[v] < 2 {
-                fixed += 1;
+    let mut counts = Counts { fixed: 0, tied: 0 };
+    for (v, was) in before.iter().enumerate() {
+        let itself = (2 * v) as u16;
+        let now = after[v];
+        if *was == itself && now != itself {
+            if now < 2 {
+                counts.fixed += 1;
             } else {
-                tied += 1;
+                counts.tied += 1;
             }
         }
     }
-    (fixed, tied)
+    counts
 }
 
 // Rewrites the list by the new representatives of a set of its clauses; None if the set has no model, or a clause became empty.

@@ -77,5 +77,5 @@ returns-in-Some c =
     record {
       state = is;
       answer = answer_some (state_of s) _ _ c.replace.new.table c.replace.new.words c.in-Some.used c.count-counts.result f l is
-          (c.count-counts.ensures.0 ∙ ap (λ x. newly 1 x c.deref-in-Some-2.result.now) t ∙ ap (newly 1 s.table.items) n) (c.count-counts.ensures.1 ∙ ap (λ x. newly 2 x c.deref-in-Some-2.result.now) t ∙ ap (newly 2 s.table.items) n);
+          (c.count-counts.ensures.fixed ∙ ap (λ x. newly 1 x c.deref-in-Some-2.result.now) t ∙ ap (newly 1 s.table.items) n) (c.count-counts.ensures.tied ∙ ap (λ x. newly 2 x c.deref-in-Some-2.result.now) t ∙ ap (newly 2 s.table.items) n);
     }

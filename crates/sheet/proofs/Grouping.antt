@@ -1,7 +1,7 @@
 -- The sweep of the store, as the sweep of a set gives it. Assumes nothing.
-use Rattle.std.proofs.Common.{◌≡◌, ℕ, ◌+◌, ◌-◌, ◌*◌, ◌<◌, ◌≤◌, Bool, true, false, cond, eqb, leb, List, [], ◌∷◌, length, get_or, take, replicate, Some, None, Ok, Err, Option, Result, sym, refl, ap, ◌∙◌, subst, arith}
+use Rattle.std.proofs.Common.{◌≡◌, ℕ, ◌+◌, ◌-◌, ◌*◌, ◌<◌, ◌≤◌, Bool, true, false, cond, eqb, leb, List, [], ◌∷◌, length, get_or, replicate, Some, None, Ok, Err, Option, Result, sym, refl, ap, ◌∙◌, subst, arith}
 use Rattle.std.specs.Vec.{with_items}
-use Rattle.std.proofs.lemmas.List.{length-take-le, with_items_is}
+use Rattle.std.proofs.lemmas.List.{with_items_is}
 use Rattle.std.proofs.lemmas.Bool.{and_from, eq-eqb}
 use Rattle.faults.specs.declared.SheetFault.{SheetFault}
 use Rattle.faults.specs.declared.SheetFault.TheVariants.{NoSuchVariable, Contradictory, Capacity, SpaceShort}
@@ -20,19 +20,19 @@ use Rattle.sheet.specs.declared.outcome.Outcome.{Outcome}
 use Rattle.sheet.specs.Calls.{used, Does, outcome, contradicted, landed, rested, swept, full_swept, news, sweep_refusal}
 use Rattle.sheet.specs.Laws.{Sweeps}
 use Rattle.sheet.specs.Sweep.{Ready, Serves}
-use Rattle.sheet.proofs.Keeping.{Lands, sheet_kept, lands, within_words, cleared}
+use Rattle.sheet.proofs.Keeping.{Lands, sheet_kept, lands, cleared}
 use Rattle.sheet.proofs.Joining.{used_is}
 use Rattle.sheet.proofs.Sweeping.{some_model, no_model, rewritten_same, news-lowest, sweep_moves, sweep_agrees}
 use Rattle.sheet.proofs.Swept.{good, full_verdict}
 
 -- why the store is not swept
-pub refusal_same : (s : Sheet) (size most room : ℕ) (list entries : List ℕ) → false ≡ broken (state_of s).store → size ≡ s.table.len → list ≡ take s.used s.words.items → length entries ≡ size
+pub refusal_same : (s : Sheet) (size most room : ℕ) (list entries : List ℕ) → false ≡ broken (state_of s).store → size ≡ s.table.len → list ≡ s.words.items → length entries ≡ size
     → refusal size most list room entries ≡ sweep_refusal most room (state_of s)
 refusal_same s size most room list entries b z p l =
     let k = sheet_kept s in
     let n : size - 1 ≡ (state_of s).nets = ap (λ x. x - 1) (z ∙ s.table.ok.0) in
     let here : well (size - 1) list ≡ true = ap (λ x. well x list) n ∙ ap (well (state_of s).nets) p ∙ k.formed in
-    let words : length list ≡ used (state_of s) = ap length p ∙ length-take-le s.used s.words.items (within_words _ _ _ _ k) ∙ sym (used_is s) in
+    let words : length list ≡ used (state_of s) = ap length p ∙ sym s.words.ok.0 ∙ sym (used_is s) in
     ap (λ x. cond x (cond (leb (length list) room) (cond (leb (occurring (size - 1) (read list)) most) None (Some Capacity)) (Some SpaceShort)) (Some NoSuchVariable))
     (and_from (eqb (length entries) size) (well (size - 1) list) (eq-eqb _ _ l) here)
     ∙ ap (λ x. cond (leb x room) (cond (leb (occurring (size - 1) (read list)) most) None (Some Capacity)) (Some SpaceShort)) words
@@ -66,11 +66,11 @@ module _ (s : State) (w : Sound s) (plain entries : List ℕ) (own : (v : ℕ) �
   group_swept false g = sym (ap (λ b. cond b (contradicted s) (landed s (rewritten (news s.nets s.store) s.table s.store))) (no_model s.nets s.store (good s w) g.0))
 
 -- nothing waits
-pub lands_rested : (s : Sheet) (none : List Bool) → none ≡ replicate s.waiting.len false → Lands s.table.items s.words.items s.used none (rested (state_of s))
+pub lands_rested : (s : Sheet) (none : List Bool) → none ≡ replicate s.waiting.len false → Lands s.table.items s.words.items s.space none (rested (state_of s))
 lands_rested s none e =
     let k = sheet_kept s in
-    let z = cleared s.waiting.items none s.waiting.len s.waiting.ok.0 e in
-    lands s.table.items s.words.items s.used none (rested (state_of s))
+    let z = cleared none s.waiting.len e in
+    lands s.table.items s.words.items s.space none (rested (state_of s))
     (record {
       few = k.sound.few;
       size = k.sound.size;
@@ -80,16 +80,16 @@ lands_rested s none e =
       quiet = λ _ _. refl;
       nets_wait = λ v h. absurd (let n : ◌≡◌ {A = ℕ} 0 1 = cc in omega arith);
     })
-    refl refl refl (sym (read_means _ _ k.formed).0) (within_words _ _ _ _ k) z.1 (z.0 ∙ k.marked)
+    refl refl refl (sym (read_means _ _ k.formed).0) z.1 (z.0 ∙ s.waiting.ok.0 ∙ k.marked)
 
-pub grouped : (s : Sheet) (size : ℕ) (list plain entries : List ℕ) (found : Bool) → size ≡ s.table.len → list ≡ take s.used s.words.items → Groups (size - 1) (read list) plain entries found
+pub grouped : (s : Sheet) (size : ℕ) (list plain entries : List ℕ) (found : Bool) → size ≡ s.table.len → list ≡ s.words.items → Groups (size - 1) (read list) plain entries found
     → Groups (state_of s).nets (state_of s).store plain entries found
 grouped s size list plain entries found z p g =
     let n : size - 1 ≡ (state_of s).nets = ap (λ x. x - 1) (z ∙ s.table.ok.0) in
     subst (λ x. Groups (state_of s).nets (read x) plain entries found) p (subst (λ x. Groups x (read list) plain entries found) n g)
 
 -- how many variables occur
-pub grouped_count : (s : Sheet) (size : ℕ) (list : List ℕ) → size ≡ s.table.len → list ≡ take s.used s.words.items → occurring (size - 1) (read list) ≡ occurring (state_of s).nets (state_of s).store
+pub grouped_count : (s : Sheet) (size : ℕ) (list : List ℕ) → size ≡ s.table.len → list ≡ s.words.items → occurring (size - 1) (read list) ≡ occurring (state_of s).nets (state_of s).store
 grouped_count s size list z p =
     let n : size - 1 ≡ (state_of s).nets = ap (λ x. x - 1) (z ∙ s.table.ok.0) in
     ap (λ x. occurring x (read list)) n ∙ ap (λ x. occurring (state_of s).nets (read x)) p
@@ -98,7 +98,7 @@ grouped_count s size list z p =
 pub plain_entries : (s : Sheet) (ws src : List ℕ) → length ws ≡ s.news.len → ((v : ℕ) → v < length ws → get_or ws v 0 ≡ 2 * v) → src ≡ (with_items s.news ws).items
     → (v : ℕ) → v ≤ (state_of s).nets → get_or src v 0 ≡ 2 * v
 plain_entries s ws src l h e v k =
-    ap (λ xs. get_or xs v 0) (e ∙ with_items_is s.news ws l) ∙ h v (omega (arith, s.spaces.2, s.table.ok.0, s.size))
+    ap (λ xs. get_or xs v 0) (e ∙ with_items_is s.news ws l) ∙ h v (omega (arith, s.news_size, s.table.ok.0, s.some))
 
 -- what a sweep promises of the sheet s, which becomes u, and of the solver
 pub record Answers {S : Type 0} (tally : S → ℕ) (before after : S) (s u : State) (refusal : Option SheetFault) (r : Result Outcome SheetFault) : Type 0 where

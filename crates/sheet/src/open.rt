@@ -1,5 +1,5 @@
 // Opening a sheet by its number of nets.
-ghost use Rattle.std.specs.Prelude.{◌≡◌, ◌≤◌, min, [], vec_len, MatchResult};
+ghost use Rattle.std.specs.Prelude.{◌≡◌, ◌≤◌, min, [], IfOk, IfErr, vec_len};
 ghost use Rattle.cnf.specs.Open.{Refuses};
 ghost use Rattle.sheet.specs.Of.{state_of};
 ghost use Rattle.sheet.specs.Calls.{opened};
@@ -11,6 +11,9 @@ use cnf::open::OpenError;
 use cnf::table::own_entries;
 use std::alloc::Global;
 
+// The most words of a store space that count.
+const MAX_WORDS: usize = 30_000;
+
 // Why a sheet was not opened, with the store space that was handed over.
 #[derive(Drop)]
 pub struct Unopened {
@@ -20,11 +23,17 @@ pub struct Unopened {
 
 impl Sheet {
     // A sheet of a number of nets with no clause, in a store space of which at most the first 30,000 words count.
-    pub fn open(heap: Global, nets: usize, space: Vec<u16>) -> Result<Sheet, Unopened>
-        ensures opens { MatchResult result (λ s. (nets ≤ 2000) × (state_of s ≡ opened nets (min (vec_len space) 30000)) × Fits [] (state_of s)) (λ u. Refuses nets u.error × (u.space ≡ space)) }
+    pub fn open(heap: Global, nets: usize, mut space: Vec<u16>) -> Result<Sheet, Unopened>
+        ensures few { IfOk result (λ _. nets ≤ 2000) }
+        ensures opens { IfOk result (λ s. state_of s ≡ opened nets (min (vec_len space) 30000)) }
+        ensures law { IfOk result (λ s. Fits [] (state_of s)) }
+        ensures refuses { IfErr result (λ u. Refuses nets u.error) }
+        ensures given_back { IfErr result (λ u. u.space ≡ space) }
     {
         match Sheet::set_aside(heap, nets) {
             Ok(mut sheet) => {
+                sheet.space = space.len().min(MAX_WORDS);
+                space.clear();
                 sheet.words = space;
                 Ok(sheet)
             }
@@ -34,14 +43,16 @@ impl Sheet {
 
     // A sheet with no store space yet.
     fn set_aside(heap: Global, nets: usize) -> Result<Sheet, OpenError>
-        ensures { MatchResult result (λ s. (nets ≤ 2000) × (state_of s ≡ opened nets 0) × (s.used ≡ 0)) (Refuses nets) }
+        ensures few { IfOk result (λ _. nets ≤ 2000) }
+        ensures opens { IfOk result (λ s. state_of s ≡ opened nets 0) }
+        ensures refuses { IfErr result (Refuses nets) }
     {
         let table = own_entries(heap, nets)?;
         let size = table.len();
         Ok(Sheet {
             table,
             words: Vec::new(heap),
-            used: 0,
+            space: 0,
             waiting: vec![in heap; false; size]?,
             next: vec![in heap; 0; size]?,
             news: vec![in heap; 0; size]?,

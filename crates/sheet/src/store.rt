@@ -1,18 +1,22 @@
 // Clauses at the end of a store, and the nets that wait.
-ghost use Rattle.std.specs.Prelude.{◌≡◌, ℕ, ◌+◌, ◌-◌, ◌<◌, ◌≤◌, Bool, true, false, ◌||◌, ◌∷◌, ◌++◌, length, take, slice_index, slice_index_or};
+ghost use Rattle.std.specs.Prelude.{◌≡◌, ℕ, ◌+◌, ◌-◌, ◌≤◌, true, false, ◌||◌, ◌∷◌, ◌++◌, length, vec_len, vec_capacity, slice_index_or};
 ghost use Rattle.cnf.specs.Truth.{inside};
 ghost use Rattle.cnf.specs.Words.{read, well};
 ghost use Rattle.classes.specs.Renumber.{mentions, occurs};
 
 use cnf::literal::variable;
 
-// Writes a clause behind the used words.
-pub(crate) fn append(words: &mut [u16], used: usize, body: &[u16])
-    requires { (used + 1 + length body.now ≤ length words.old) × (length body.now ≤ 64) }
-    ensures { take (used + 1 + length body.now) words.new ≡ take used words.old ++ length body.now ∷ body.now }
+// Writes a clause at the end, in the space that is set aside.
+pub(crate) fn append(words: &mut Vec<u16>, body: &[u16])
+    requires room { vec_len words.old + 1 + length body.now ≤ vec_capacity words.old }
+    requires few { length body.now ≤ 64 }
+    ensures words { words.new.items ≡ words.old.items ++ length body.now ∷ body.now }
+    ensures space { vec_capacity words.new ≡ vec_capacity words.old }
 {
-    words[used] = body.len() as u16;
-    words[used + 1..used + 1 + body.len()].copy_from_slice(body);
+    words.push_reserved(body.len() as u16);
+    for code in body {
+        words.push_reserved(*code);
+    }
 }
 
 // Marks the variables of a clause.
@@ -36,13 +40,4 @@ pub(crate) fn join_all(list: &[u16], marks: &mut [bool])
         join(&list[i + 1..end], marks);
         i = end;
     }
-}
-
-// Writes the empty clause, and lets nothing wait.
-pub(crate) fn empty(words: &mut [u16], waiting: &mut [bool])
-    requires { 0 < length words.old }
-    ensures { (slice_index words.new 0 ≡ 0) × ((v : ℕ) → slice_index_or waiting.new v false ≡ false) }
-{
-    words[0] = 0;
-    waiting.fill(false);
 }

@@ -1,19 +1,19 @@
 // Sweeps: new representatives from the clauses themselves.
 ghost use Rattle.std.specs.Prelude.{◌≡◌, ℕ, ◌+◌, ◌*◌, ◌<◌, ◌≤◌, Bool, true, false, length, if◌then◌else◌, None, slice_index};
 ghost use Rattle.cnf.specs.Table.{by};
-ghost use Rattle.propagation.specs.Propagate.{rewritten, Leaves};
-ghost use Rattle.cnf.specs.Words.{encode, read};
+ghost use Rattle.propagation.specs.Propagate.{rewritten};
+ghost use Rattle.cnf.specs.Words.{read};
 ghost use Rattle.sheet.specs.Of.{state_of};
 ghost use Rattle.sheet.specs.Calls.{Does, newly, landed, full_swept, outcome, sweep_refusal};
 ghost use Rattle.sheet.specs.Sweep.{Ready, Serves};
 ghost use Rattle.sheet.specs.Laws.{Sweeps};
 
-use crate::store::empty;
 use crate::{Counts, Outcome, Sheet};
 use classes::group::sweep_group;
 use faults::SheetFault;
 use propagation::propagate::rewrite;
 use solver::Solver;
+use std::mem::swap;
 
 // Lets each variable stand for itself.
 fn reset(entries: &mut [u16])
@@ -47,17 +47,6 @@ fn count(before: &[u16], after: &[u16]) -> Counts
     counts
 }
 
-// Rewrites the list by the new representatives of a set of its clauses; None if the set has no model, or a clause became empty.
-fn replace(found: bool, news: &[u16], table: &mut [u16], words: &mut [u16]) -> Option<usize>
-    requires { encode (read words.old) ≡ words.old }
-    ensures { Leaves (if found then rewritten (by news.now) table.old (read words.old) else None) table.new words.new result }
-{
-    if !found {
-        return None;
-    }
-    rewrite(news, table, words)
-}
-
 impl Sheet {
     // Takes over the new representatives of a set of stored clauses, or that the set has no model.
     fn take_over(&mut self, found: bool) -> Outcome
@@ -65,22 +54,22 @@ impl Sheet {
         ensures state { state_of self.new ≡ landed (state_of self.old) (if found then rewritten (by self.old.news.items) (state_of self.old).table (state_of self.old).store else None) }
         ensures answer { result ≡ outcome (state_of self.old) (state_of self.new) }
     {
+        if !found {
+            self.contradict();
+            return Outcome::Contradiction;
+        }
         self.next.copy_from_slice(&self.table);
-        match replace(
-            found,
-            &self.news,
-            &mut self.next,
-            &mut self.words[0..self.used],
-        ) {
+        match rewrite(&self.news, &mut self.next, &mut self.words) {
             None => {
-                empty(&mut self.words, &mut self.waiting);
-                self.used = 1;
+                // what is left of the words is no clause list
+                self.words.clear();
+                self.contradict();
                 Outcome::Contradiction
             }
             Some(used) => {
                 let counts = count(&self.table, &self.next);
-                self.table.copy_from_slice(&self.next);
-                self.used = used;
+                swap(&mut self.table, &mut self.next);
+                self.words.truncate(used);
                 Outcome::Settled(counts)
             }
         }
@@ -100,13 +89,7 @@ impl Sheet {
             return Err(SheetFault::Contradictory);
         }
         reset(&mut self.news);
-        let found = sweep_group(
-            &mut self.scratch,
-            solver,
-            &self.words[0..self.used],
-            work,
-            &mut self.news,
-        )?;
+        let found = sweep_group(&mut self.scratch, solver, &self.words, work, &mut self.news)?;
         let outcome = self.take_over(found);
         self.waiting.fill(false);
         Ok(outcome)

@@ -33,11 +33,10 @@ fn count(before: &[u16], after: &[u16]) -> Counts
     ensures tied { result.tied ≡ newly 2 before.now after.now }
 {
     let mut counts = Counts { fixed: 0, tied: 0 };
-    for (v, was) in before.iter().enumerate() {
+    for (v, (was, now)) in before.iter().zip(after).enumerate() {
         let itself = (2 * v) as u16;
-        let now = after[v];
-        if *was == itself && now != itself {
-            if now < 2 {
+        if *was == itself && *now != itself {
+            if *now < 2 {
                 counts.fixed += 1;
             } else {
                 counts.tied += 1;

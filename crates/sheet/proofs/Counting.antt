@@ -1,7 +1,6 @@
 -- How many variables changed their kind. Assumes nothing.
-use Rattle.std.proofs.Common.{◌≡◌, ◌≢◌, ℕ, ◌+◌, ◌*◌, ◌<◌, ◌≤◌, zero, suc, Bool, true, false, cond, ◌&&◌, List, [], ◌∷◌, length, drop, get_or, sym, refl, ap, ◌∙◌, subst, ◌⊎◌, ⊎_elim, add-one, arith}
+use Rattle.std.proofs.Common.{◌≡◌, ◌≢◌, ℕ, ◌+◌, ◌*◌, ◌<◌, ◌≤◌, zero, suc, Bool, true, false, cond, ◌&&◌, List, ◌∷◌, length, drop, get_or, sym, refl, ap, ◌∙◌, subst, ◌⊎◌, ⊎_elim, add-one, arith}
 use Rattle.std.proofs.lemmas.List.{length-drop, drop_more}
-use Rattle.std.proofs.lemmas.Bool.{eq-eqb, ne_eqb, lt-ltb, le-ltb}
 use Rattle.std.proofs.lemmas.Bool.Decides.{nat_tests}
 use Rattle.classes.specs.Renumber.{below}
 use Rattle.sheet.specs.Calls.{is_kind, newly}

@@ -36,7 +36,8 @@ impl Sheet {
     // Stores what the table left of a clause.
     fn store(&mut self, body: &[u16]) -> Result<(), SheetFault>
         requires { Storable (state_of self.old) body.now }
-        ensures { Does (storing_refusal (state_of self.old) body.now) (state_of self.old) (joined (state_of self.old) (Some body.now)) tt (state_of self.new) result }
+        ensures { Does (storing_refusal (state_of self.old) body.now) (state_of self.old)
+            (joined (state_of self.old) (Some body.now)) tt (state_of self.new) result }
     {
         if body.is_empty() {
             if self.space == 0 {
@@ -56,7 +57,8 @@ impl Sheet {
 
     // Adds a clause: the table is applied to it, and what is left goes to the end of the store.
     pub fn add(&mut self, clause: &[u16]) -> Result<(), SheetFault>
-        ensures does { Does (addition_refusal (state_of self.old) clause.now) (state_of self.old) (added (state_of self.old) clause.now) tt (state_of self.new) result }
+        ensures does { Does (addition_refusal (state_of self.old) clause.now) (state_of self.old)
+            (added (state_of self.old) clause.now) tt (state_of self.new) result }
         ensures law { Adds clause.now (state_of self.old) (state_of self.new) result }
     {
         if self.is_contradictory() {
@@ -79,7 +81,8 @@ impl Sheet {
 
     // Lets all variables of the store wait.
     pub fn wake(&mut self) -> Result<(), SheetFault>
-        ensures { Does (waking_refusal (state_of self.old)) (state_of self.old) (woken (state_of self.old)) tt (state_of self.new) result }
+        ensures { Does (waking_refusal (state_of self.old)) (state_of self.old)
+            (woken (state_of self.old)) tt (state_of self.new) result }
     {
         if self.is_contradictory() {
             return Err(SheetFault::Contradictory);

@@ -22,7 +22,8 @@ pub struct Unopened {
 }
 
 impl Sheet {
-    // A sheet of a number of nets with no clause, in a store space of which at most the first 30,000 words count.
+    // A sheet of a number of nets with no clause, in a store space of which at most the first
+    // 30,000 words count.
     pub fn open(heap: Global, nets: usize, mut space: Vec<u16>) -> Result<Sheet, Unopened>
         ensures few { IfOk result (λ _. nets ≤ 2000) }
         ensures opens { IfOk result (λ s. state_of s ≡ opened nets (min (vec_len space) 30000)) }

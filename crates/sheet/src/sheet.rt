@@ -7,9 +7,10 @@ ghost use Rattle.sheet.specs.State.{broken, contains};
 
 use classes::scratch::Scratch;
 
-// The table has an entry for the constant and one for each net; the words are the store, and `space` words of its space count; a net waits if its mark is set.
-// The other spaces serve sweeps and questions: the table to come, the new representative of each variable,
-// the bits of an assignment, and what the sweep of a set works in.
+// The table has an entry for the constant and one for each net; the words are the store, of whose
+// space `space` words count; a net waits if its mark is set.
+// The other spaces serve sweeps and questions: the table to come, the new representative of each
+// variable, the bits of an assignment, and what the sweep of a set works in.
 #[derive(Drop)]
 pub struct Sheet {
     pub(crate) table: Vec<u16>,
@@ -20,14 +21,17 @@ pub struct Sheet {
     pub(crate) news: Vec<u16>,
     pub(crate) bits: Vec<bool>,
     pub(crate) scratch: Scratch,
-    // the table's facts
+    // the table's facts, as in cnf's `Table`: that one cannot stand here, since it takes no new
+    // entries from a sweep, and a public method that did would have to ask for these facts
     ghost constants: { (c : ℕ) → c < 2 → rep table.items c ≡ c },
     ghost opposites: { (c : ℕ) → rep table.items (opp c) ≡ opp (rep table.items c) },
     ghost lower: { (c : ℕ) → c / 2 < length table.items → rep table.items c / 2 ≤ c / 2 },
-    ghost itself: { (c : ℕ) → c / 2 < length table.items → rep table.items (rep table.items c) ≡ rep table.items c },
+    ghost itself: { (c : ℕ) → c / 2 < length table.items →
+        rep table.items (rep table.items c) ≡ rep table.items c },
     ghost some: { 1 ≤ vec_len table },
     ghost few: { vec_len table ≤ 2001 },
-    // the store is a clause list in the space set aside for it, and each literal in it is its own representative
+    // the store is a clause list in the space set aside for it, and each literal in it is its own
+    // representative
     ghost limit: { space ≤ 30000 },
     ghost reserved: { space ≤ vec_capacity words },
     ghost room: { vec_len words ≤ space },
@@ -35,7 +39,8 @@ pub struct Sheet {
     ghost own: { (c : ℕ) → contains (read words.items) c ≡ true → rep table.items c ≡ c },
     // a contradictory sheet stores just the empty clause and has nothing waiting
     ghost alone: { broken (read words.items) ≡ true → vec_len words ≡ 1 },
-    ghost quiet: { broken (read words.items) ≡ true → (v : ℕ) → slice_index_or waiting.items v false ≡ false },
+    ghost quiet: { broken (read words.items) ≡ true →
+        (v : ℕ) → slice_index_or waiting.items v false ≡ false },
     // only nets wait
     ghost constant: { slice_index_or waiting.items 0 false ≡ false },
     // each other space has an entry for each of the table's

@@ -22,17 +22,20 @@ pub(crate) fn append(words: &mut Vec<u16>, body: &[u16])
 // Marks the variables of a clause.
 pub(crate) fn join(body: &[u16], marks: &mut [bool])
     requires { inside (length marks.old - 1) body.now ≡ true }
-    ensures { (v : ℕ) → slice_index_or marks.new v false ≡ (slice_index_or marks.old v false || mentions body.now v) }
+    ensures { (v : ℕ) → slice_index_or marks.new v false ≡
+        (slice_index_or marks.old v false || mentions body.now v) }
 {
     for code in body {
         marks[variable(*code)] = true;
     }
 }
 
-// Marks the variables of a list.
+// Marks the variables of a list. A `while`, since the place of each clause follows from the length
+// before it, and there is no iterator over clauses.
 pub(crate) fn join_all(list: &[u16], marks: &mut [bool])
     requires { well (length marks.old - 1) list.now ≡ true }
-    ensures { (v : ℕ) → slice_index_or marks.new v false ≡ (slice_index_or marks.old v false || occurs (read list.now) v) }
+    ensures { (v : ℕ) → slice_index_or marks.new v false ≡
+        (slice_index_or marks.old v false || occurs (read list.now) v) }
 {
     let mut i = 0;
     while i < list.len() {

@@ -1,5 +1,5 @@
 // Sweeps: new representatives from the clauses themselves.
-ghost use Rattle.std.specs.Prelude.{◌≡◌, ℕ, ◌+◌, ◌*◌, ◌<◌, ◌≤◌, Bool, true, false, length, if◌then◌else◌, None, slice_index};
+ghost use Rattle.std.specs.Prelude.{◌≡◌, ℕ, ◌+◌, ◌*◌, ◌<◌, ◌≤◌, Bool, true, false, length, if◌then◌else◌, None, slice_index, EachIndex};
 ghost use Rattle.cnf.specs.Table.{by};
 ghost use Rattle.propagation.specs.Propagate.{rewritten};
 ghost use Rattle.cnf.specs.Words.{read};
@@ -18,14 +18,15 @@ use std::mem::swap;
 // Lets each variable stand for itself.
 fn reset(entries: &mut [u16])
     requires { length entries.old ≤ 2001 }
-    ensures { (v : ℕ) → v < length entries.new → slice_index entries.new v ≡ 2 * v }
+    ensures { EachIndex entries.new (λ v. slice_index entries.new v ≡ 2 * v) }
 {
     for (v, entry) in entries.iter_mut().enumerate() {
         *entry = (2 * v) as u16;
     }
 }
 
-// How many variables that are free by the first table are fixed, and how many are tied, by the second.
+// How many variables that are free by the first table are fixed, and how many are tied, by the
+// second.
 fn count(before: &[u16], after: &[u16]) -> Counts
     requires same_size { length after.now ≡ length before.now }
     requires small { length before.now ≤ 2001 }
@@ -50,7 +51,9 @@ impl Sheet {
     // Takes over the new representatives of a set of stored clauses, or that the set has no model.
     fn take_over(&mut self, found: bool) -> Outcome
         requires { Ready (state_of self.old) self.old.news.items found }
-        ensures state { state_of self.new ≡ landed (state_of self.old) (if found then rewritten (by self.old.news.items) (state_of self.old).table (state_of self.old).store else None) }
+        ensures state { state_of self.new ≡ landed (state_of self.old) (if found
+            then rewritten (by self.old.news.items) (state_of self.old).table (state_of self.old).store
+            else None) }
         ensures answer { result ≡ outcome (state_of self.old) (state_of self.new) }
     {
         if !found {
@@ -80,7 +83,9 @@ impl Sheet {
         solver: &mut S,
         work: &mut [u16],
     ) -> Result<Outcome, SheetFault>
-        ensures does { Does (sweep_refusal S.most (length work.old) (state_of self.old)) (state_of self.old) (full_swept (state_of self.old)) (outcome (state_of self.old) (full_swept (state_of self.old))) (state_of self.new) result }
+        ensures does { Does (sweep_refusal S.most (length work.old) (state_of self.old)) (state_of self.old)
+            (full_swept (state_of self.old)) (outcome (state_of self.old) (full_swept (state_of self.old)))
+            (state_of self.new) result }
         ensures law { Sweeps (state_of self.old) (state_of self.new) result }
         ensures served { Serves S.tally (state_of self.old) solver.old solver.new result }
     {

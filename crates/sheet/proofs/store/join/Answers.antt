@@ -1,5 +1,5 @@
 use Rattle.std.proofs.Common.{arith}
-use Rattle.sheet.proofs.Storing.{joining_none, joining_named, joining_more, joining_done}
+use Rattle.sheet.proofs.Marking.{joining_none, joining_named, joining_more, joining_done}
 use Rattle.sheet.proofs.store.join.Goals as goal
 
 pub loop-code-init : goal.loop-code-init

@@ -1,4 +1,4 @@
-use Rattle.sheet.proofs.Storing.{joining_all_none, here_fits, here_named, joining_all_more, joining_all_done}
+use Rattle.sheet.proofs.Marking.{joining_all_none, here_fits, here_named, joining_all_more, joining_all_done}
 use Rattle.sheet.proofs.store.join_all.Goals as goal
 
 pub loop-i-init : goal.loop-i-init

@@ -1,5 +1,5 @@
 use Rattle.std.proofs.Common.{◌-◌, length}
-use Rattle.sheet.proofs.Storing.{JoiningAll}
+use Rattle.sheet.proofs.Marking.{JoiningAll}
 use Rattle.sheet.proofs.store.join_all.Given as goal
 
 abbrev pub invariant-loop-i : goal.invariant-loop-i

@@ -1,27 +1,13 @@
--- A clause at the end of a store, and variables that are marked. Assumes nothing.
-use Rattle.std.proofs.Common.{◌≡◌, ℕ, ◌+◌, ◌-◌, ◌*◌, ◌/◌, ◌<◌, ◌≤◌, Bool, true, false, ◌||◌, eqb, leb, List, [], ◌∷◌, ◌++◌, length, get_or, take, drop, set, sym, refl, ap, ◌∙◌, ⊎_elim, arith}
-use Rattle.std.proofs.lemmas.List.{append_assoc, take_more_set, length-set, get_or-set_same, get_or-set_other, drop_more, drop_all}
+-- Variables that are marked. Assumes nothing.
+use Rattle.std.proofs.Common.{◌≡◌, ℕ, ◌+◌, ◌-◌, ◌*◌, ◌/◌, ◌<◌, ◌≤◌, Bool, true, false, ◌||◌, eqb, leb, List, length, get_or, take, drop, set, sym, refl, ap, ◌∙◌, ⊎_elim, arith}
+use Rattle.std.proofs.Math.Bool.{or-false, or_assoc}
+use Rattle.std.proofs.lemmas.List.{length-set, get_or-set_same, get_or-set_other, drop_more, drop_all}
 use Rattle.std.proofs.lemmas.Bool.{and_parts, cases_eq, eq-eqb, ne_eqb, leb-true}
 use Rattle.std.proofs.lemmas.Bool.Decides.{nat_tests}
 use Rattle.cnf.specs.Truth.{named, inside}
 use Rattle.cnf.specs.Words.{read, well}
 use Rattle.cnf.proofs.Reading.{read_more, read-nil, clause_here}
 use Rattle.classes.specs.Renumber.{mentions, occurs}
-
--- the words after a clause was written behind the used ones
-pub appended : (words body : List ℕ) (used : ℕ) → used < length words → (part : List ℕ) → part ≡ body
-    → take (used + 1) (set words used (length body)) ++ part ≡ take used words ++ length body ∷ body
-appended words body used l part e =
-    ap (λ xs. xs ++ part) (take_more_set words used (length body) l) ∙ append_assoc (take used words) (length body ∷ []) part
-    ∙ ap (λ xs. take used words ++ length body ∷ xs) e
-
-or-none : (b : Bool) → (b || false) ≡ b
-or-none true = refl
-or-none false = refl
-
-or_swap : (a b c d : Bool) → (a || (b || c)) ≡ d → ((a || b) || c) ≡ d
-or_swap true b c d e = e
-or_swap false b c d e = e
 
 -- the literals from i on are still to be marked
 pub record Joining (body : List ℕ) (marks here : List Bool) (i : ℕ) : Type 0 where
@@ -67,7 +53,7 @@ module _ (body : List ℕ) (marks here : List Bool) (i : ℕ) (w : Joining body 
 pub joining_done : (body : List ℕ) (marks here : List Bool) (i : ℕ) → Joining body marks here i → length body ≤ i
     → (v : ℕ) → get_or here v false ≡ (get_or marks v false || mentions body v)
 joining_done body marks here i w l v =
-    sym (or-none (get_or here v false)) ∙ ap (λ ds. get_or here v false || mentions ds v) (sym (drop_all i body l)) ∙ w.left v
+    sym (or-false (get_or here v false)) ∙ ap (λ ds. get_or here v false || mentions ds v) (sym (drop_all i body l)) ∙ w.left v
 
 -- the clauses from i on are still to be marked
 pub record JoiningAll (list : List ℕ) (marks here : List Bool) (i : ℕ) : Type 0 where
@@ -99,11 +85,11 @@ module _ (list : List ℕ) (marks here : List Bool) (i : ℕ) (w : JoiningAll li
         let z : i + 1 + get_or list i 0 - (i + 1) ≡ get_or list i 0 = omega arith in
         let k = h v ∙ ap (λ n. get_or here v false || mentions (take n (drop (i + 1) list)) v) z in
         ap (λ b. b || occurs (read (drop (i + 1 + get_or list i 0) list)) v) k
-        ∙ or_swap (get_or here v false) (mentions (take (get_or list i 0) (drop (i + 1) list)) v) (occurs (read (drop (i + 1 + get_or list i 0) list)) v) _
-        (sym (ap (λ cs. get_or here v false || occurs cs v) (read_more list i l)) ∙ w.left v);
+        ∙ or_assoc (get_or here v false) (mentions (take (get_or list i 0) (drop (i + 1) list)) v) (occurs (read (drop (i + 1 + get_or list i 0) list)) v)
+        ∙ sym (ap (λ cs. get_or here v false || occurs cs v) (read_more list i l)) ∙ w.left v;
   }
 
 pub joining_all_done : (list : List ℕ) (marks here : List Bool) (i : ℕ) → JoiningAll list marks here i → length list ≤ i
     → (v : ℕ) → get_or here v false ≡ (get_or marks v false || occurs (read list) v)
 joining_all_done list marks here i w l v =
-    sym (or-none (get_or here v false)) ∙ ap (λ cs. get_or here v false || occurs cs v) (sym (ap read (drop_all i list l) ∙ read-nil)) ∙ w.left v
+    sym (or-false (get_or here v false)) ∙ ap (λ cs. get_or here v false || occurs cs v) (sym (ap read (drop_all i list l) ∙ read-nil)) ∙ w.left v

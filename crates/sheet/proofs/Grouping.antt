@@ -69,9 +69,9 @@ lands_rested s none e =
 
 -- what the sweep of a set found in the store of a sheet: why the store is not swept, the new representatives, and the searches
 pub record Found {S : Type 0} (tally : S → ℕ) (most room : ℕ) (s : State) (entries : List ℕ) (before after : S) (found : Bool) : Type 0 where
-  pub taken : sweep_refusal most room s ≡ None
+  pub allowed : sweep_refusal most room s ≡ None
   pub ready : Ready s entries found
-  pub swept : landed s (cond found (rewritten (by entries) s.table s.store) None) ≡ swept s.store s
+  pub lands : landed s (cond found (rewritten (by entries) s.table s.store) None) ≡ swept s.store s
   pub searches : tally after ≤ tally before + 2 * occurring s.nets s.store + 1
 
 -- the sweep of the store, in the space for new representatives once each stands for itself
@@ -119,9 +119,9 @@ module _
         let each : (v : ℕ) → v ≤ (state_of s).nets → get_or plain v 0 ≡ 2 * v = λ v k. ap (λ xs. get_or xs v 0) same ∙ own v (omega (arith, l, s.news_size, s.table.ok.0, s.some)) in
         let count : occurring (s.scratch.rank.len - 1) (read list) ≡ occurring (state_of s).nets (state_of s).store = (let n = nets in cc) in
         record {
-          taken = sym refusal_same ∙ g.0;
+          allowed = sym refusal_same ∙ g.0;
           ready = group_ready (state_of s) (sheet_kept s).sound plain entries each found groups;
-          swept = group_swept (state_of s) (sheet_kept s).sound plain entries each found groups;
+          lands = group_swept (state_of s) (sheet_kept s).sound plain entries each found groups;
           searches = omega (arith, g.2, count);
         }
 

@@ -6,7 +6,8 @@ ghost use Rattle.classes.specs.Renumber.{mentions, occurs};
 
 use cnf::literal::variable;
 
-// Writes a clause at the end, in the space that is set aside.
+// Writes a clause at the end, in the space that is set aside. No `extend_from_slice`, whose contract
+// lets it allocate.
 pub(crate) fn append(words: &mut Vec<u16>, body: &[u16])
     requires room { vec_len words.old + 1 + length body.now ≤ vec_capacity words.old }
     requires few { length body.now ≤ 64 }

@@ -43,7 +43,7 @@ returns g c =
     c.take_over-outcome.ensures.state
     ∙ ap (λ xs. landed (state_of s) (cond c.in_ok-found.found (rewritten (by xs) (state_of s).table (state_of s).store) None))
     (with_items_is (with_items s.news c.reset.new.entries) c.sweep_group.new.table (c.sweep_group.auto.table ∙ c.deref_mut-2.ensures.len))
-    ∙ w.swept in
-    let a = answered g.S.Solver.tally c.args.solver.now c.sweep_group.new.solver (state_of s) _ (sheet_kept s).sound _ c.take_over-outcome.result w.taken
+    ∙ w.lands in
+    let a = answered g.S.Solver.tally c.args.solver.now c.sweep_group.new.solver (state_of s) _ (sheet_kept s).sound _ c.take_over-outcome.result w.allowed
     ((lands_rested u c.fill.new.self.items (c.fill.ensures.items (λ _ e. e))).is ∙ ap rested state) (c.take_over-outcome.ensures.answer ∙ ap (outcome (state_of s)) state) w.searches in
     record { does = a.does; law = a.law; served = a.served }

@@ -1,10 +1,9 @@
 -- The sweep of the store, as the sweep of a set gives it. Assumes nothing.
-use Rattle.std.proofs.Common.{◌≡◌, ℕ, ◌+◌, ◌-◌, ◌*◌, ◌<◌, ◌≤◌, Bool, true, false, cond, eqb, leb, List, [], ◌∷◌, length, get_or, replicate, Some, None, Ok, Err, Option, Result, sym, refl, ap, ◌∙◌, subst, arith}
+use Rattle.std.proofs.Common.{◌≡◌, ℕ, ◌+◌, ◌-◌, ◌*◌, ◌<◌, ◌≤◌, Bool, true, false, cond, eqb, List, [], ◌∷◌, length, get_or, replicate, Some, None, Ok, Err, Option, Result, sym, refl, ap, ◌∙◌, subst, arith}
 use Rattle.std.specs.Vec.{with_items}
 use Rattle.std.proofs.lemmas.List.{with_items_is}
 use Rattle.std.proofs.lemmas.Bool.{and_from, eq-eqb}
 use Rattle.faults.specs.declared.SheetFault.{SheetFault}
-use Rattle.faults.specs.declared.SheetFault.TheVariants.{NoSuchVariable, Contradictory, Capacity, SpaceShort}
 use Rattle.cnf.specs.Truth.{Model}
 use Rattle.cnf.specs.Words.{encode, read, well}
 use Rattle.cnf.specs.Table.{by}
@@ -17,7 +16,7 @@ use Rattle.sheet.specs.declared.sheet.Sheet.{Sheet}
 use Rattle.sheet.specs.State.{State, broken, Sound}
 use Rattle.sheet.specs.Of.{state_of}
 use Rattle.sheet.specs.declared.outcome.Outcome.{Outcome}
-use Rattle.sheet.specs.Calls.{used, Does, outcome, contradicted, landed, rested, swept, full_swept, news, sweep_refusal}
+use Rattle.sheet.specs.Calls.{used, Does, outcome, landed, rested, swept, full_swept, news, sweep_refusal}
 use Rattle.sheet.specs.Laws.{Sweeps}
 use Rattle.sheet.specs.Sweep.{Ready, Serves}
 use Rattle.sheet.proofs.Keeping.{Lands, sheet_kept, lands, cleared}
@@ -46,9 +45,10 @@ module _ (s : State) (w : Sound s) (plain entries : List ℕ) (own : (v : ℕ) �
 
   group_swept : (found : Bool) → Groups s.nets s.store plain entries found → landed s (cond found (rewritten (by entries) s.table s.store) None) ≡ swept s.store s
   group_swept true g =
-      ap (landed s) (rewritten_same (by entries) (news s.nets s.store) s.table s.store w.reduced.tabled (λ v l. entries_news g v (omega (arith, w.size))))
-      ∙ sym (ap (λ b. cond b (contradicted s) (landed s (rewritten (news s.nets s.store) s.table s.store))) (some_model s.nets s.store (good s w) g.0))
-  group_swept false g = sym (ap (λ b. cond b (contradicted s) (landed s (rewritten (news s.nets s.store) s.table s.store))) (no_model s.nets s.store (good s w) g.0))
+      let same = rewritten_same (by entries) (news s.nets s.store) s.table s.store w.reduced.tabled (λ v l. entries_news g v (omega (arith, w.size))) in
+      let none = some_model s.nets s.store (good s w) g.0 in
+      cc
+  group_swept false g = let all = no_model s.nets s.store (good s w) g.0 in cc
 
 -- nothing waits
 pub lands_rested : (s : Sheet) (none : List Bool) → none ≡ replicate s.waiting.len false → Lands s.table.items s.words.items s.space none (rested (state_of s))
@@ -100,14 +100,8 @@ module _
         let size : length plain ≡ s.scratch.rank.len = omega (arith, ap length same, l, s.news_size, s.scratch_size) in
         let here : well (s.scratch.rank.len - 1) list ≡ true = ap (λ x. well x list) n ∙ ap (well (state_of s).nets) p ∙ (sheet_kept s).formed in
         let words : length list ≡ used (state_of s) = ap length p ∙ sym s.words.ok.0 ∙ sym (used_is s) in
-        let count : occurring (s.scratch.rank.len - 1) (read list) ≡ occurring (state_of s).nets (state_of s).store = cc in
-        let room' : leb (length list) room ≡ leb (used (state_of s)) room = cc in
-        let fits : leb (occurring (s.scratch.rank.len - 1) (read list)) most ≡ leb (occurring (state_of s).nets (state_of s).store) most = cc in
-        ap (λ x. cond x (cond (leb (length list) room) (cond (leb (occurring (s.scratch.rank.len - 1) (read list)) most) None (Some Capacity)) (Some SpaceShort)) (Some NoSuchVariable))
-        (and_from (eqb (length plain) s.scratch.rank.len) (well (s.scratch.rank.len - 1) list) (eq-eqb _ _ size) here)
-        ∙ ap (λ x. cond x (cond (leb (occurring (s.scratch.rank.len - 1) (read list)) most) None (Some Capacity)) (Some SpaceShort)) room'
-        ∙ ap (λ x. cond (leb (used (state_of s)) room) (cond x None (Some Capacity)) (Some SpaceShort)) fits
-        ∙ ap (λ x. cond x (Some Contradictory) (cond (leb (used (state_of s)) room) (cond (leb (occurring (state_of s).nets (state_of s).store) most) None (Some Capacity)) (Some SpaceShort))) alive
+        let formed = and_from (eqb (length plain) s.scratch.rank.len) (well (s.scratch.rank.len - 1) list) (eq-eqb _ _ size) here in
+        cc
 
     pub group_refused : (e : SheetFault) → Grouped tally most s.scratch.rank.len list room plain entries before after (Err e) → (sweep_refusal most room (state_of s) ≡ Some e) × (after ≡ before)
     group_refused e g = (sym refusal_same ∙ g.0, g.2)

@@ -1,5 +1,5 @@
 -- A clause that joins a sheet. Assumes nothing.
-use Rattle.std.proofs.Common.{◌≡◌, ℕ, ◌+◌, ◌<◌, ◌≤◌, Bool, false, cond, ◌||◌, eqb, List, [], ◌∷◌, ◌++◌, length, get_or, Some, None, sym, refl, ap, ◌∙◌, subst, arith}
+use Rattle.std.proofs.Common.{◌≡◌, ℕ, ◌+◌, ◌<◌, ◌≤◌, Bool, false, ◌||◌, eqb, List, [], ◌∷◌, ◌++◌, length, get_or, Some, None, sym, refl, ap, ◌∙◌, subst, arith}
 use Rattle.std.specs.Vec.{with_items}
 use Rattle.std.proofs.lemmas.List.{with_items_is}
 use Rattle.std.proofs.lemmas.Bool.{lt-leb, le-leb, eqb-false}
@@ -30,10 +30,10 @@ module _ (s : Sheet) (body : List ℕ) (h : 0 < length body) (n : ℕ) (e : n �
   after = joined-used (state_of s) body h ∙ ap (λ k. k + 1 + length body) (used_is s ∙ sym e)
 
   pub too_long : s.space < n + 1 + length body → storing_refusal (state_of s) body ≡ Some StoreFull
-  too_long l = ap (λ b. cond b None (Some StoreFull)) (lt-leb (used (joined (state_of s) (Some body))) s.space (omega (arith, after)))
+  too_long l = let b = lt-leb (used (joined (state_of s) (Some body))) s.space (omega (arith, after)) in cc
 
   pub short_enough : n + 1 + length body ≤ s.space → storing_refusal (state_of s) body ≡ None
-  short_enough l = ap (λ b. cond b None (Some StoreFull)) (le-leb (used (joined (state_of s) (Some body))) s.space (omega (arith, after)))
+  short_enough l = let b = le-leb (used (joined (state_of s) (Some body))) s.space (omega (arith, after)) in cc
 
 -- the clause stands behind the other words, and its variables are marked
 pub landed : (s : Sheet) (body words : List ℕ) (before marks : List Bool) → Storable (state_of s) body → 0 < length body → (n : ℕ) → n ≡ s.words.len

@@ -8,7 +8,7 @@ use Rattle.propagation.specs.Propagate.{Rewritten, rewritten, Leaves}
 use Rattle.propagation.specs.Laws.{Lasts, Outcome}
 use Rattle.propagation.proofs.Keeping.{rewriting_keeps}
 use Rattle.sheet.specs.declared.outcome.Counts.{Counts}
-use Rattle.sheet.specs.declared.outcome.Outcome.TheVariants.{Contradiction, Settled}
+use Rattle.sheet.specs.declared.outcome.Outcome.TheVariants.{Settled}
 use Rattle.sheet.specs.declared.sheet.Sheet.{Sheet}
 use Rattle.sheet.specs.State.{State, Sound}
 use Rattle.sheet.specs.Of.{state_of}
@@ -99,7 +99,8 @@ answer_left s None next part n p f l a b = absurd (let n : ◌≡◌ {A = ℕ} 0
 answer_left s (Some r) next part n p f l a b =
     let e = l.1 in
     let counts : ◌≡◌ {A = Counts} (record { fixed = p.fixed; tied = p.tied }) (record { fixed = newly 1 s.table r.table; tied = newly 2 s.table r.table }) = cc in
-    ap Settled counts ∙ sym (ap (λ c. cond c Contradiction (Settled (record { fixed = newly 1 s.table r.table; tied = newly 2 s.table r.table }))) (pending_whole r.clauses f.rest))
+    let whole = pending_whole r.clauses f.rest in
+    cc
 
 pub answer_replaced : (s : Sheet) (found : Bool) (next part : List ℕ) (n : ℕ) → Replaced s found next part (Some n) → (p : Counts)
     → p.fixed ≡ newly 1 s.table.items next → p.tied ≡ newly 2 s.table.items next → Settled p ≡ outcome (state_of s) (landed (state_of s) (over s found))

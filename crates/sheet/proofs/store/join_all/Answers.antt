@@ -1,8 +1,5 @@
-use Rattle.sheet.proofs.Marking.{joining_all_none, here_fits, here_named, joining_all_more, joining_all_done}
+use Rattle.sheet.proofs.Marking.{here_fits, here_named, joining_all_more, joining_all_done}
 use Rattle.sheet.proofs.store.join_all.Goals as goal
-
-pub loop-i-init : goal.loop-i-init
-loop-i-init c = joining_all_none _ _ c.requires
 
 pub slice_bounds-join-end : goal.slice_bounds-join-end
 slice_bounds-join-end c = here_fits _ _ _ _ c.loop-i.invariant c.loop-i-test.true

@@ -2,9 +2,6 @@ use Rattle.std.proofs.Common.{[], ◌∷◌, ◌++◌, ap, ◌∙◌, arith}
 use Rattle.sheet.proofs.Keeping.{ghosts, lands_contradicted}
 use Rattle.sheet.proofs.sheet.Sheet.contradict.Goals as goal
 
-pub push_reserved-requires : goal.push_reserved-requires
-push_reserved-requires c = omega (arith, c.args.self.now.reserved)
-
 pub invariant_of-self : goal.invariant_of-self
 invariant_of-self c =
     let s = c.args.self.now in

@@ -1,23 +1,16 @@
-use Rattle.std.proofs.Common.{◌≡◌, ℕ, ◌≤◌, min, List, [], sym, ap, ◌∙◌, subst, arith}
+use Rattle.std.proofs.Common.{◌≡◌, ℕ, ◌≤◌, min, List, [], sym, ap, ◌∙◌, subst}
 use Rattle.sheet.specs.declared.sheet.Sheet.{Sheet}
 use Rattle.sheet.specs.State.{State}
 use Rattle.sheet.specs.Of.{state_of}
 use Rattle.sheet.specs.Calls.{opened}
 use Rattle.sheet.specs.Laws.{Fits}
-use Rattle.sheet.proofs.Keeping.{Lands, sheet_kept, ghosts}
+use Rattle.sheet.proofs.Keeping.{Lands, sheet_kept}
 use Rattle.sheet.proofs.Opening.{lands_opened, fits-opened}
 use Rattle.sheet.proofs.sheet.Sheet.open.Goals as goal
 
 -- an opened sheet, in another store space
 moved : (s : Sheet) (words : List ℕ) (space n : ℕ) → n ≤ 2000 → state_of s ≡ opened n 0 → words ≡ [] → Lands s.table.items words space s.waiting.items (opened n space)
 moved s words space n h e w = lands_opened s.table.items words space s.waiting.items n h (ap (λ (x : State). x.table) e) w (sheet_kept s).marked (λ v. ap (λ (x : State). x.waiting v) e)
-
-pub invariant_of-sheet : goal.invariant_of-sheet
-invariant_of-sheet c =
-    let s = c.in-Ok.sheet in
-    let h = c.in-Ok.ensures in
-    ghosts s.table c.clear.new.self c.min.result s.waiting _ _ _ _ (moved s _ c.min.result c.args.nets h.few h.opens c.clear.ensures.items).holds
-    (omega (arith, c.min.ensures)) (omega (arith, c.min.ensures, c.len.ensures, c.clear.ensures.capacity, c.args.space.ok.1)) s.next_size s.news_size s.bits_size s.scratch_size
 
 pub returns-in-Ok : goal.returns-in-Ok
 returns-in-Ok c =

@@ -7,9 +7,6 @@ use Rattle.sheet.proofs.sheet.Sheet.store.Goals as goal
 pub returns-then-used-self : goal.returns-then-used-self
 returns-then-used-self c = (too_long c.args.self.now c.args.body.now (some_left _ c.if-is_empty.ensures) _ c.len.ensures c.if-used-self.true, refl)
 
-pub append-requires : goal.append-requires
-append-requires c = record { room = omega (arith, c.args.self.now.reserved, c.len.ensures); few = c.requires.few }
-
 pub invariant_of-self : goal.invariant_of-self
 invariant_of-self c =
     let s = c.args.self.now in

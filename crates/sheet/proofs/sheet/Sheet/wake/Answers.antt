@@ -1,10 +1,9 @@
-use Rattle.std.proofs.Common.{◌≡◌, ℕ, Bool, false, cond, ◌||◌, List, length, get_or, Some, None, sym, refl, ap, ◌∙◌, subst}
+use Rattle.std.proofs.Common.{◌≡◌, ℕ, Bool, false, ◌||◌, List, length, get_or, sym, refl, ap, ◌∙◌, subst}
 use Rattle.std.specs.Vec.{with_items}
 use Rattle.std.proofs.lemmas.List.{with_items_is}
 use Rattle.cnf.specs.Words.{read}
 use Rattle.cnf.proofs.Reading.{read_means}
 use Rattle.classes.specs.Renumber.{occurs}
-use Rattle.faults.specs.declared.SheetFault.TheVariants.{Contradictory}
 use Rattle.sheet.specs.declared.sheet.Sheet.{Sheet}
 use Rattle.sheet.specs.State.{broken}
 use Rattle.sheet.specs.Of.{state_of}
@@ -30,11 +29,3 @@ invariant_of-self c =
     ghosts s.table s.words s.space (with_items s.waiting c.join_all.new.marks) _ _ _ _
     (landed s _ _ _ c.deref_mut.ensures.value c.deref.ensures.value c.if-is_contradictory.ensures c.join_all.auto.marks c.join_all.ensures).holds
     s.limit s.reserved s.next_size s.news_size s.bits_size s.scratch_size
-
-pub returns : goal.returns
-returns c =
-    let b = c.if-is_contradictory.ensures in (
-      sym (ap (λ x. cond x (Some Contradictory) None) b),
-      (landed c.args.self.now _ _ _ c.deref_mut.ensures.value c.deref.ensures.value b c.join_all.auto.marks c.join_all.ensures).is,
-      refl,
-    )

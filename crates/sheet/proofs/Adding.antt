@@ -2,7 +2,7 @@
 use Rattle.std.proofs.Common.{◌≡◌, ℕ, ◌≤◌, true, false, cond, leb, List, [], ◌∷◌, length, Some, None, Ok, Result, sym, refl, ap, ◌∙◌, subst, arith}
 use Rattle.std.proofs.lemmas.Bool.{and_parts, and_from, le-leb}
 use Rattle.faults.specs.declared.SheetFault.{SheetFault}
-use Rattle.faults.specs.declared.SheetFault.TheVariants.{NoSuchVariable, TooManyLiterals, StoreFull, Contradictory}
+use Rattle.faults.specs.declared.SheetFault.TheVariants.{StoreFull}
 use Rattle.cnf.specs.Truth.{inside}
 use Rattle.cnf.specs.Words.{good, goods}
 use Rattle.cnf.specs.Table.{by, before, applied}
@@ -33,20 +33,18 @@ module _ (s : State) (c : List ℕ) (w : Sound s) (alive : false ≡ broken s.st
 
   -- only the store space is left to look at
   refusal-left : addition_refusal s c ≡ cond (leb (used (added s c)) s.space) None (Some StoreFull)
-  refusal-left =
-      ap (λ b. cond b (Some Contradictory)
-      (cond (leb (length c) 64) (cond (inside s.nets c) (cond (leb (used (added s c)) s.space) None (Some StoreFull)) (Some NoSuchVariable)) (Some TooManyLiterals))) (sym alive)
-      ∙ ap (λ b. cond b (cond (inside s.nets c) (cond (leb (used (added s c)) s.space) None (Some StoreFull)) (Some NoSuchVariable)) (Some TooManyLiterals)) (le-leb (length c) 64 few)
-      ∙ ap (λ b. cond b (cond (leb (used (added s c)) s.space) None (Some StoreFull)) (Some NoSuchVariable)) known
+  refusal-left = let e = le-leb (length c) 64 few in cc
 
   pub vanished : None ≡ applied (by s.table) c → Does (addition_refusal s c) s (added s c) (tt {0}) s (Ok (tt {0}))
   vanished e =
       let a : s ≡ added s c = ap (joined s) e in
-      (refusal-left ∙ ap (λ x. cond (leb (used x) s.space) None (Some StoreFull)) (sym a) ∙ ap (λ b. cond b None (Some StoreFull)) (le-leb (used s) s.space w.room), a, refl)
+      let r = refusal-left in
+      let room = le-leb (used s) s.space w.room in
+      ((cc), a, refl)
 
   pub stored : (body : List ℕ) → Some body ≡ applied (by s.table) c → (u : State) (r : Result Unit SheetFault)
       → Does (storing_refusal s body) s (joined s (Some body)) tt u r → Does (addition_refusal s c) s (added s c) tt u r
   stored body e u r d =
       let a : joined s (Some body) ≡ added s c = ap (joined s) e in
-      let f : storing_refusal s body ≡ addition_refusal s c = ap (λ x. cond (leb (used x) s.space) None (Some StoreFull)) a ∙ sym refusal-left in
+      let f : storing_refusal s body ≡ addition_refusal s c = (let r = refusal-left in cc) in
       subst (λ x. Does x s (added s c) tt u r) f (subst (λ x. Does (storing_refusal s body) s x tt u r) a d)

@@ -1,23 +1,21 @@
 -- A sheet whose representatives were replaced. Assumes nothing.
-use Rattle.std.proofs.Common.{◌≡◌, ℕ, ◌-◌, ◌≤◌, min, Bool, true, false, cond, List, length, get_or, take, drop, Some, None, Option, Vec, sym, refl, ap, ◌∙◌, subst, arith}
-use borrow.Rule.Slice.PartMut.{put_mid}
-use Rattle.std.specs.Vec.{with_items}
-use Rattle.std.specs.declared.alloc.Global.{Global}
-use Rattle.std.proofs.lemmas.List.{take-append-le, length-take-le, with_items_is, length-append, length-drop}
+use Rattle.std.proofs.Common.{◌≡◌, ℕ, ◌-◌, ◌≤◌, Bool, true, false, cond, List, [], length, take, Some, None, Option, sym, refl, ap, ◌∙◌, subst, arith}
 use Rattle.std.proofs.lemmas.Bool.{both_ways}
 use Rattle.cnf.specs.Words.{encode, read}
 use Rattle.cnf.specs.Table.{by}
+use Rattle.cnf.proofs.Reading.{read_means}
 use Rattle.propagation.specs.Propagate.{Rewritten, rewritten, Leaves}
 use Rattle.propagation.specs.Laws.{Lasts, Outcome}
 use Rattle.propagation.proofs.Keeping.{rewriting_keeps}
-use Rattle.sheet.specs.declared.outcome.Outcome.TheVariants.{Contradiction, Settled}
+use Rattle.sheet.specs.declared.outcome.Counts.{Counts}
+use Rattle.sheet.specs.declared.outcome.Outcome.TheVariants.{Settled}
 use Rattle.sheet.specs.declared.sheet.Sheet.{Sheet}
 use Rattle.sheet.specs.State.{State, Sound}
 use Rattle.sheet.specs.Of.{state_of}
-use Rattle.sheet.specs.Calls.{landed, newly, outcome}
+use Rattle.sheet.specs.Calls.{contradicted, landed, newly, outcome}
 use Rattle.sheet.specs.Sweep.{Ready}
-use Rattle.sheet.proofs.Keeping.{Lands, sheet_kept, lands, lands_contradicted, within_words}
-use Rattle.sheet.proofs.Joining.{used_is}
+use Rattle.sheet.proofs.Keeping.{Lands, sheet_kept, lands}
+use Rattle.sheet.proofs.Sounding.{emptied, sound_emptied}
 use Rattle.sheet.proofs.Swept.{pending_whole, room_for_one}
 
 -- what a rewriting may leave to a sheet
@@ -44,71 +42,66 @@ sound_landed s p w l = record {
   nets_wait = w.nets_wait;
 }
 
--- nothing was left: the sheet is contradictory
-module _ (s : Sheet) (o : Option Rewritten) (x y : List ℕ) where
-  pub over_none : Fine (state_of s) o → Leaves o x y None → (v : Vec ℕ Global) (words : List ℕ) (none : List Bool) → v.len ≡ s.words.len → length words ≡ v.len → get_or words 0 0 ≡ 0
-      → length none ≡ s.waiting.len → ((i : ℕ) → get_or none i false ≡ false)
-      → Lands s.table.items (with_items v words).items 1 (with_items s.waiting none).items (landed (state_of s) o)
-  over_none = go o
-    where
-      go : (o : Option Rewritten) → Fine (state_of s) o → Leaves o x y None → (v : Vec ℕ Global) (words : List ℕ) (none : List Bool) → v.len ≡ s.words.len → length words ≡ v.len → get_or words 0 0 ≡ 0
-          → length none ≡ s.waiting.len → ((i : ℕ) → get_or none i false ≡ false)
-          → Lands s.table.items (with_items v words).items 1 (with_items s.waiting none).items (landed (state_of s) o)
-      go None f l v words none p q e m z = lands_contradicted s v words none p q e f m z
-      go (Some p) f l v words none a b c d z = absurd (let n : ◌≡◌ {A = ℕ} 0 1 = (let k = l.0 in cc) in omega arith)
+-- what is left of a sheet: nothing where its clauses have no model
+abbrev pub over : Sheet → Bool → Option Rewritten
+over s found = cond found (rewritten (by s.news.items) (state_of s).table (state_of s).store) None
 
-pub room_none : (s : State) (o : Option Rewritten) (x y : List ℕ) → Fine s o → Leaves o x y None → 1 ≤ s.space
-room_none s None x y f l = f
-room_none s (Some p) x y f l = absurd (let n : ◌≡◌ {A = ℕ} 0 1 = (let k = l.0 in cc) in omega arith)
+-- a sheet's representatives were replaced, and `next` and the front of `part` hold what is left
+pub record Replaced (s : Sheet) (found : Bool) (next part : List ℕ) (r : Option ℕ) : Type 0 where
+  pub fine : Fine (state_of s) (over s found)
+  pub leaves : Leaves (over s found) next part r
 
-pub answer_none : (s u : State) (o : Option Rewritten) (x y : List ℕ) → Leaves o x y None → u ≡ landed s o → Contradiction ≡ outcome s u
-answer_none s u None x y l e = sym (ap (outcome s) e)
-answer_none s u (Some p) x y l e = absurd (let n : ◌≡◌ {A = ℕ} 0 1 = (let k = l.0 in cc) in omega arith)
-
--- what was left stands at the front of the store space
-front_put : (n k : ℕ) (was part : List ℕ) → n ≤ length part → take n (put_mid 0 k was part) ≡ take n part
-front_put n k was part h = take-append-le n part _ h
-
-put_size : (k : ℕ) (was part : List ℕ) → length part ≡ k → k ≤ length was → length (put_mid 0 k was part) ≡ length was
-put_size k was part l h = length-append part (drop k was) ∙ omega (arith, length-drop k was)
-
--- a table copied from the space that was filled
-pub copied : (v : Vec ℕ Global) (ws src : List ℕ) → length ws ≡ v.len → src ≡ (with_items v ws).items → src ≡ ws
-copied v ws src l q = q ∙ with_items_is v ws l
-
-pub part_size : (s : Sheet) (was part : List ℕ) → was ≡ s.words.items → length part ≡ length (take (s.used - 0) was) → length part ≡ s.used - 0
-part_size s was part p l = l ∙ length-take-le (s.used - 0) was (omega (arith, within_words _ _ _ _ (sheet_kept s), ap length p))
-
-pub over_some : (s : Sheet) (o : Option Rewritten) (t : Vec ℕ Global) (was words next part : List ℕ) (n : ℕ) → Fine (state_of s) o → Leaves o next part (Some n)
-    → t.items ≡ next → was ≡ s.words.items → words ≡ put_mid 0 (s.used - 0) was part → length part ≡ s.used - 0
-    → Lands t.items (with_items s.words words).items n s.waiting.items (landed (state_of s) o)
-over_some s None t was words next part n f l e p q lp = absurd (let n : ◌≡◌ {A = ℕ} 0 1 = (let k = l in cc) in omega arith)
-over_some s (Some r) t was words next part n f l e p q lp =
+pub replaced : (s : Sheet) (found : Bool) (news table words next part : List ℕ) (r : Option ℕ) → Ready (state_of s) s.news.items found → found ≡ true
+    → news ≡ s.news.items → table ≡ s.table.items → words ≡ s.words.items → (encode (read words) ≡ words → Leaves (rewritten (by news) table (read words)) next part r)
+    → Replaced s found next part r
+replaced s found news table words next part r ready e p q w h =
     let k = sheet_kept s in
-    let lw : length words ≡ length was = ap length q ∙ put_size (s.used - 0) was part lp (omega (arith, within_words _ _ _ _ k, ap length p)) in
+    let o : rewritten (by news) table (read words) ≡ over s found = cc in
+    record {
+      fine = ready_fine (state_of s) s.news.items found k.sound ready;
+      leaves = subst (λ x. Leaves x next part r) o (h (ap (λ xs. encode (read xs)) w ∙ (read_means _ _ k.formed).0 ∙ sym w));
+    }
+
+-- nothing is left: there is room for the empty clause, and the sheet becomes contradictory
+pub none_left : (s : State) (o : Option Rewritten) (next part : List ℕ) → Fine s o → Leaves o next part None → (1 ≤ s.space) × (landed s o ≡ contradicted s)
+none_left s None next part f l = (f, refl)
+none_left s (Some p) next part f l = absurd (let n : ◌≡◌ {A = ℕ} 0 1 = (let k = l.0 in cc) in omega arith)
+
+pub replaced_none : (s : Sheet) (found : Bool) (next part : List ℕ) → Replaced s found next part None → (1 ≤ s.space) × (landed (state_of s) (over s found) ≡ contradicted (state_of s))
+replaced_none s found next part w = none_left (state_of s) (over s found) next part w.fine w.leaves
+
+-- a sheet whose words were taken away
+pub lands_emptied : (s : Sheet) (words : List ℕ) → words ≡ [] → Lands s.table.items words s.space s.waiting.items (emptied (state_of s))
+lands_emptied s words e =
+    let k = sheet_kept s in
+    lands s.table.items words s.space s.waiting.items (emptied (state_of s)) (sound_emptied (state_of s) k.sound) refl refl refl e (λ _. refl) k.marked
+
+-- something is left: it stands in `table`, and at the front of the words
+lands_left : (s : Sheet) (o : Option Rewritten) (table words next part : List ℕ) (n : ℕ) → Fine (state_of s) o → Leaves o next part (Some n) → table ≡ next → words ≡ take n part
+    → Lands table words s.space s.waiting.items (landed (state_of s) o)
+lands_left s None table words next part n f l e q = absurd (let n : ◌≡◌ {A = ℕ} 0 1 = (let k = l in cc) in omega arith)
+lands_left s (Some r) table words next part n f l e q =
+    let k = sheet_kept s in
     let count : n ≡ length (encode r.clauses) = (let z = l.0 in cc) in
-    let few : n ≤ length part = omega (arith, f.fewer, k.sound.room, count, used_is s, lp) in
-    let u : t.items ≡ r.table = e ∙ l.1 in
-    let nw : length words ≡ s.words.len = lw ∙ ap length p ∙ sym s.words.ok.0 in
-    let size : length t.items ≡ length s.table.items = ap length u ∙ f.size in
-    subst (λ w. Lands t.items w n s.waiting.items (landed (state_of s) (Some r))) (sym (with_items_is s.words words nw))
-    (lands t.items words n s.waiting.items (landed (state_of s) (Some r)) (sound_landed (state_of s) r k.sound f) (ap (λ x. x - 1) size) (ap (λ x. min x 30000) (lw ∙ ap length p)) u
-    (ap (take n) q ∙ front_put n (s.used - 0) was part few ∙ ap (λ x. take x part) count ∙ l.2)
-    (omega (arith, lw ∙ ap length p, within_words _ _ _ _ k, lp))
-    (λ _. refl) (k.marked ∙ sym size))
+    let u : table ≡ r.table = e ∙ l.1 in
+    let size : length table ≡ length s.table.items = ap length u ∙ f.size in
+    lands table words s.space s.waiting.items (landed (state_of s) (Some r)) (sound_landed (state_of s) r k.sound f) (ap (λ x. x - 1) size) refl u
+    (q ∙ ap (λ x. take x part) count ∙ l.2) (λ _. refl) (k.marked ∙ sym size)
 
-pub answer_some : (s u : State) (o : Option Rewritten) (next part : List ℕ) (n : ℕ) (p : ℕ × ℕ) → Fine s o → Leaves o next part (Some n) → u ≡ landed s o
-    → p.0 ≡ newly 1 s.table next → p.1 ≡ newly 2 s.table next → Settled p ≡ outcome s u
-answer_some s u None next part n p f l e a b = absurd (let n : ◌≡◌ {A = ℕ} 0 1 = (let k = l in cc) in omega arith)
-answer_some s u (Some r) next part n p f l e a b =
-    let x : p.0 ≡ newly 1 s.table r.table = a ∙ ap (newly 1 s.table) l.1 in
-    let y : p.1 ≡ newly 2 s.table r.table = b ∙ ap (newly 2 s.table) l.1 in
-    ap (λ i. Settled (i, p.1)) x ∙ ap (λ i. Settled (newly 1 s.table r.table, i)) y
-    ∙ sym (ap (outcome s) e ∙ ap (λ c. cond c Contradiction (Settled (newly 1 s.table r.table, newly 2 s.table r.table))) (pending_whole r.clauses f.rest))
+pub lands_replaced : (s : Sheet) (found : Bool) (next part : List ℕ) (n : ℕ) → Replaced s found next part (Some n) → (table words : List ℕ) → table ≡ next → words ≡ take n part
+    → Lands table words s.space s.waiting.items (landed (state_of s) (over s found))
+lands_replaced s found next part n w table words e q = lands_left s (over s found) table words next part n w.fine w.leaves e q
 
--- the same rewriting, of equal spaces
-pub leaves_same : (found : Bool) (e e' t t' ws ws' u v : List ℕ) (r : Option ℕ) → e ≡ e' → t ≡ t' → ws ≡ ws' → Leaves (cond found (rewritten (by e) t (read ws)) None) u v r
-    → Leaves (cond found (rewritten (by e') t' (read ws')) None) u v r
-leaves_same found e e' t t' ws ws' u v r p q w l =
-    subst (λ x. Leaves (cond found (rewritten (by e') t' (read x)) None) u v r) w
-    (subst (λ x. Leaves (cond found (rewritten (by e') x (read ws)) None) u v r) q (subst (λ x. Leaves (cond found (rewritten (by x) t (read ws)) None) u v r) p l))
+-- the counts that are answered then
+answer_left : (s : State) (o : Option Rewritten) (next part : List ℕ) (n : ℕ) (p : Counts) → Fine s o → Leaves o next part (Some n)
+    → p.fixed ≡ newly 1 s.table next → p.tied ≡ newly 2 s.table next → Settled p ≡ outcome s (landed s o)
+answer_left s None next part n p f l a b = absurd (let n : ◌≡◌ {A = ℕ} 0 1 = (let k = l in cc) in omega arith)
+answer_left s (Some r) next part n p f l a b =
+    let e = l.1 in
+    let counts : ◌≡◌ {A = Counts} (record { fixed = p.fixed; tied = p.tied }) (record { fixed = newly 1 s.table r.table; tied = newly 2 s.table r.table }) = cc in
+    let whole = pending_whole r.clauses f.rest in
+    cc
+
+pub answer_replaced : (s : Sheet) (found : Bool) (next part : List ℕ) (n : ℕ) → Replaced s found next part (Some n) → (p : Counts)
+    → p.fixed ≡ newly 1 s.table.items next → p.tied ≡ newly 2 s.table.items next → Settled p ≡ outcome (state_of s) (landed (state_of s) (over s found))
+answer_replaced s found next part n w p a b = answer_left (state_of s) (over s found) next part n p w.fine w.leaves a b

@@ -1,4 +1,4 @@
-pub mod Storing
+pub mod Marking
 pub mod Sounding
 pub mod Keeping
 pub mod Joining

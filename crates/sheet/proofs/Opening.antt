@@ -1,5 +1,5 @@
 -- A sheet that was just opened. Assumes nothing.
-use Rattle.std.proofs.Common.{◌≡◌, ℕ, ◌+◌, ◌*◌, ◌≤◌, min, Bool, false, List, [], length, get_or, sym, refl, ap, ◌∙◌, arith}
+use Rattle.std.proofs.Common.{◌≡◌, ℕ, ◌+◌, ◌*◌, ◌≤◌, Bool, false, List, [], length, get_or, sym, refl, ap, ◌∙◌, arith}
 use Rattle.std.proofs.lemmas.Bool.{both_ways}
 use Rattle.cnf.specs.Truth.{lit}
 use Rattle.cnf.specs.Table.{fresh}
@@ -9,11 +9,11 @@ use Rattle.sheet.specs.Calls.{opened}
 use Rattle.sheet.specs.Laws.{Fits}
 use Rattle.sheet.proofs.Keeping.{Lands, lands}
 
-pub lands_opened : (table words : List ℕ) (marks : List Bool) (n : ℕ) → n ≤ 2000 → table ≡ fresh n → length marks ≡ length table → ((v : ℕ) → get_or marks v false ≡ false)
-    → Lands table words 0 marks (opened n (min (length words) 30000))
-lands_opened table words marks n h e l z =
+pub lands_opened : (table words : List ℕ) (space : ℕ) (marks : List Bool) (n : ℕ) → n ≤ 2000 → table ≡ fresh n → words ≡ [] → length marks ≡ length table → ((v : ℕ) → get_or marks v false ≡ false)
+    → Lands table words space marks (opened n space)
+lands_opened table words space marks n h e k l z =
     let size : length table ≡ n + 1 = ap length e ∙ fresh-length 0 (n + 1) in
-    lands table words 0 marks (opened n (min (length words) 30000))
+    lands table words space marks (opened n space)
     (record {
       few = h;
       size = fresh-length 0 (n + 1);
@@ -23,7 +23,7 @@ lands_opened table words marks n h e l z =
       quiet = λ b _. refl;
       nets_wait = λ v b. absurd (both_ways false refl b);
     })
-    (omega arith) refl e refl (omega arith) z l
+    (omega arith) refl e k z l
 
 -- every assignment fits
 pub fits-opened : (n space : ℕ) → Fits [] (opened n space)

@@ -21,6 +21,21 @@ sound_contradicted s w h = record {
   nets_wait = λ v e. absurd (both_ways false refl e);
 }
 
+-- a sheet without its clauses
+abbrev pub emptied : State → State
+emptied s = record { nets = s.nets; space = s.space; table = s.table; store = []; waiting = s.waiting }
+
+pub sound_emptied : (s : State) → Sound s → Sound (emptied s)
+sound_emptied s w = record {
+  few = w.few;
+  size = w.size;
+  reduced = record { some = w.reduced.some; tabled = w.reduced.tabled; good = refl; own = tt };
+  room = omega arith;
+  alone = λ b. absurd (both_ways false refl b);
+  quiet = λ b. absurd (both_ways false refl b);
+  nets_wait = w.nets_wait;
+}
+
 -- one clause more at the end
 pub encode_push : (cs : List (List ℕ)) (c : List ℕ) → encode (cs ++ c ∷ []) ≡ encode cs ++ length c ∷ c
 encode_push [] c = ap (λ xs. length c ∷ xs) (append-nil c)

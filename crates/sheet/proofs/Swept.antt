@@ -4,7 +4,8 @@ use Rattle.std.proofs.lemmas.Bool.{both_ways, true≢false}
 use Rattle.cnf.specs.Truth.{told, lit, clauses, Model}
 use Rattle.cnf.specs.Words.{encode, goods}
 use Rattle.cnf.specs.Table.{rep, by, via}
-use Rattle.cnf.specs.Finite.{is_backbone, lowest, rows, passes}
+use Rattle.cnf.specs.Finite.{is_backbone, lowest, rows}
+use Rattle.std.specs.List.{list_all}
 use Rattle.cnf.proofs.Tables.{lit_turn}
 use Rattle.cnf.proofs.Counting.{backbone_means}
 use Rattle.cnf.proofs.Entries.{entries_from_tabled}
@@ -25,10 +26,10 @@ use Rattle.sheet.proofs.Standing.{lit_follows}
 use Rattle.sheet.proofs.Sweeping.{own_occurring, news-lowest, sweep_moves, sweep_agrees, followed_equal}
 
 -- a test that fails on some of the elements that were kept
-kept_some : {X : Type 0} (p q : X → Bool) (xs : List X) → passes p (filter q xs) ≡ false → (x : X) × (q x ≡ true)
+kept_some : {X : Type 0} (p q : X → Bool) (xs : List X) → list_all p (filter q xs) ≡ false → (x : X) × (q x ≡ true)
 kept_some p q [] h = absurd (true≢false h)
 kept_some {X} p q (x ∷ xs) h =
-    elim (q x) as (λ b. q x ≡ b → passes p (cond b (x ∷ filter q xs) (filter q xs)) ≡ false → (y : X) × (q y ≡ true))
+    elim (q x) as (λ b. q x ≡ b → list_all p (cond b (x ∷ filter q xs) (filter q xs)) ≡ false → (y : X) × (q y ≡ true))
     [ true ↦ λ e _. (x, e) | false ↦ λ _ k. kept_some p q xs k ] refl h
 
 -- where false is no backbone there is a model
@@ -110,7 +111,7 @@ module _ (s : State) (w : Sound s) (sat : Satisfied s.store) (p : Rewritten) (e 
   verdict_some : Sweeps s (rested (landed s (Some p))) (Ok (outcome s (rested (landed s (Some p)))))
   verdict_some =
       let u : State = rested (landed s (Some p)) in
-      let pair : Answer = Settled (newly 1 s.table p.table, newly 2 s.table p.table) in
+      let pair : Answer = Settled (record { fixed = newly 1 s.table p.table; tied = newly 2 s.table p.table }) in
       subst (λ b. Sweeps s u (Ok (cond b Contradiction pair))) (sym (pending_whole p.clauses l.rest))
       (λ h f. (
         (λ a. ((λ m. (l.same a).0 ((f a).0 m)), (λ st. (f a).1 ((l.same a).1 st)))),

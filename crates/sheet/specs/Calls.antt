@@ -103,12 +103,12 @@ newly k t u = below (λ v. is_kind 0 t v && is_kind k u v) (length t)
 
 -- what a sweep answers, from the sheet before and after
 abbrev pub outcome : State → State → Outcome
-outcome s u = cond (broken u.store) Contradiction (Settled (newly 1 s.table u.table, newly 2 s.table u.table))
+outcome s u = cond (broken u.store) Contradiction (Settled (record { fixed = newly 1 s.table u.table; tied = newly 2 s.table u.table }))
 
 -- each outcome's number, then its values
 abbrev pub outcome_numbers : Outcome → List ℕ
 outcome_numbers Contradiction = 0 ∷ []
-outcome_numbers (Settled p) = 1 ∷ p.0 ∷ p.1 ∷ []
+outcome_numbers (Settled p) = 1 ∷ p.fixed ∷ p.tied ∷ []
 
 -- why a full sweep is refused, by a solver for `most` variables and a work space of `room` words
 abbrev pub sweep_refusal : ℕ → ℕ → State → Option SheetFault

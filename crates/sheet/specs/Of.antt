@@ -4,4 +4,4 @@ use Rattle.sheet.specs.declared.sheet.Sheet.{Sheet}
 use Rattle.sheet.specs.State.{State, state_in}
 
 abbrev pub state_of : Sheet → State
-state_of s = state_in (vec_items s.table) (vec_items s.words) s.used (vec_items s.waiting)
+state_of s = state_in (vec_items s.table) (vec_items s.words) s.space (vec_items s.waiting)

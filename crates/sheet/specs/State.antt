@@ -1,5 +1,5 @@
 -- What a sheet is, and what always holds of it. Assumes nothing.
-use Rattle.std.specs.Prelude.{◌≡◌, ℕ, ◌+◌, ◌-◌, ◌≤◌, min, Bool, true, false, ◌||◌, List, [], ◌∷◌, length, take, slice_index_or}
+use Rattle.std.specs.Prelude.{◌≡◌, ℕ, ◌+◌, ◌-◌, ◌≤◌, Bool, true, false, ◌||◌, List, [], ◌∷◌, length, slice_index_or}
 use Rattle.cnf.specs.Words.{encode, read}
 use Rattle.cnf.specs.Table.{has}
 use Rattle.propagation.specs.Follow.{Reduced}
@@ -36,12 +36,12 @@ pub record Sound (s : State) : Type 0 where
   -- only nets wait
   pub nets_wait : (v : ℕ) → s.waiting v ≡ true → (1 ≤ v) × (v ≤ s.nets)
 
--- the sheet in these spaces: at most the first 30,000 words count, and the first `used` of them are the store
+-- the sheet in these spaces: the words are the store, and `space` of its words count
 abbrev pub state_in : List ℕ → List ℕ → ℕ → List Bool → State
-state_in table words used marks = record {
+state_in table words space marks = record {
   nets = length table - 1;
-  space = min (length words) 30000;
+  space = space;
   table = table;
-  store = read (take used words);
+  store = read words;
   waiting = λ v. slice_index_or marks v false;
 }

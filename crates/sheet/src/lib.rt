@@ -11,5 +11,5 @@ mod sweep;
 mod tests;
 
 pub use open::Unopened;
-pub use outcome::Outcome;
+pub use outcome::{Counts, Outcome};
 pub use sheet::Sheet;

@@ -1,41 +1,49 @@
 // A sheet and the spaces that it owns.
-ghost use Rattle.std.specs.Prelude.{◌≡◌, ℕ, ◌+◌, ◌-◌, ◌/◌, ◌<◌, ◌≤◌, min, true, false, length, take, vec_len, slice_index_or};
-ghost use Rattle.cnf.specs.Truth.{opp};
+ghost use Rattle.std.specs.Prelude.{◌≡◌, ℕ, ◌-◌, ◌≤◌, true, false, length, vec_len, vec_capacity, slice_index_or};
 ghost use Rattle.cnf.specs.Words.{read, well};
-ghost use Rattle.cnf.specs.Table.{rep};
+ghost use Rattle.cnf.specs.Table.{rep, Tabled};
 ghost use Rattle.sheet.specs.State.{broken, contains};
 
 use classes::scratch::Scratch;
 
-// The table has an entry for the constant and one for each net; `used` words of the store space are the store; a net waits if its mark is set.
-// The other spaces serve sweeps and questions: the table to come, the new representative of each variable,
-// the bits of an assignment, and what the sweep of a set works in.
+// The table has an entry for the constant and one for each net; the words are the store, of whose
+// space `space` words count; a net waits if its mark is set.
+// The other spaces serve sweeps and questions: the table to come, the new representative of each
+// variable, the bits of an assignment, and what the sweep of a set works in.
 #[derive(Drop)]
 pub struct Sheet {
     pub(crate) table: Vec<u16>,
     pub(crate) words: Vec<u16>,
-    pub(crate) used: usize,
+    pub(crate) space: usize,
     pub(crate) waiting: Vec<bool>,
     pub(crate) next: Vec<u16>,
     pub(crate) news: Vec<u16>,
     pub(crate) bits: Vec<bool>,
     pub(crate) scratch: Scratch,
-    // the table's facts
-    ghost constants: { (c : ℕ) → c < 2 → rep table.items c ≡ c },
-    ghost opposites: { (c : ℕ) → rep table.items (opp c) ≡ opp (rep table.items c) },
-    ghost lower: { (c : ℕ) → c / 2 < length table.items → rep table.items c / 2 ≤ c / 2 },
-    ghost itself: { (c : ℕ) → c / 2 < length table.items → rep table.items (rep table.items c) ≡ rep table.items c },
-    // the store is a clause list in the store space, and each literal in it is its own representative
-    ghost room: { used ≤ min (vec_len words) 30000 },
-    ghost formed: { well (vec_len table - 1) (take used words.items) ≡ true },
-    ghost own: { (c : ℕ) → contains (read (take used words.items)) c ≡ true → rep table.items c ≡ c },
+    // not cnf's `Table`: that one takes no new entries from a sweep, and a public method that did
+    // would have to ask that they are a table's
+    ghost tabled: { Tabled table.items },
+    ghost some: { 1 ≤ vec_len table },
+    ghost few: { vec_len table ≤ 2001 },
+    // the store is a clause list in the space set aside for it, and each literal in it is its own
+    // representative
+    ghost limit: { space ≤ 30000 },
+    ghost reserved: { space ≤ vec_capacity words },
+    ghost room: { vec_len words ≤ space },
+    ghost formed: { well (vec_len table - 1) words.items ≡ true },
+    ghost own: { (c : ℕ) → contains (read words.items) c ≡ true → rep table.items c ≡ c },
     // a contradictory sheet stores just the empty clause and has nothing waiting
-    ghost alone: { broken (read (take used words.items)) ≡ true → used ≡ 1 },
-    ghost quiet: { broken (read (take used words.items)) ≡ true → (v : ℕ) → slice_index_or waiting.items v false ≡ false },
+    ghost alone: { broken (read words.items) ≡ true → vec_len words ≡ 1 },
+    ghost quiet: { broken (read words.items) ≡ true →
+        (v : ℕ) → slice_index_or waiting.items v false ≡ false },
     // only nets wait
     ghost constant: { slice_index_or waiting.items 0 false ≡ false },
-    ghost size: { (1 ≤ vec_len table) × (vec_len table ≤ 2001) },
-    ghost spaces: { (vec_len waiting ≡ vec_len table) × (vec_len next ≡ vec_len table) × (vec_len news ≡ vec_len table) × (vec_len bits ≡ vec_len table) × (vec_len scratch.rank ≡ vec_len table) },
+    // each other space has an entry for each of the table's
+    ghost waiting_size: { vec_len waiting ≡ vec_len table },
+    ghost next_size: { vec_len next ≡ vec_len table },
+    ghost news_size: { vec_len news ≡ vec_len table },
+    ghost bits_size: { vec_len bits ≡ vec_len table },
+    ghost scratch_size: { vec_len scratch.rank ≡ vec_len table },
 }
 
 impl Sheet {

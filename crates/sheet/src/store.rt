@@ -1,24 +1,31 @@
 // Clauses at the end of a store, and the nets that wait.
-ghost use Rattle.std.specs.Prelude.{◌≡◌, ℕ, ◌+◌, ◌-◌, ◌<◌, ◌≤◌, Bool, true, false, ◌||◌, ◌∷◌, ◌++◌, length, take, slice_index, slice_index_or};
+ghost use Rattle.std.specs.Prelude.{◌≡◌, ℕ, ◌+◌, ◌-◌, ◌≤◌, true, false, ◌||◌, ◌∷◌, ◌++◌, length, vec_len, vec_capacity, slice_index_or};
 ghost use Rattle.cnf.specs.Truth.{inside};
 ghost use Rattle.cnf.specs.Words.{read, well};
 ghost use Rattle.classes.specs.Renumber.{mentions, occurs};
 
 use cnf::literal::variable;
+use words::clauses::Clauses;
 
-// Writes a clause behind the used words.
-pub(crate) fn append(words: &mut [u16], used: usize, body: &[u16])
-    requires { (used + 1 + length body.now ≤ length words.old) × (length body.now ≤ 64) }
-    ensures { take (used + 1 + length body.now) words.new ≡ take used words.old ++ length body.now ∷ body.now }
+// Writes a clause at the end, in the space that is set aside. No `extend_from_slice`, whose contract
+// lets it allocate.
+pub(crate) fn append(words: &mut Vec<u16>, body: &[u16])
+    requires room { vec_len words.old + 1 + length body.now ≤ vec_capacity words.old }
+    requires few { length body.now ≤ 64 }
+    ensures words { words.new.items ≡ words.old.items ++ length body.now ∷ body.now }
+    ensures space { vec_capacity words.new ≡ vec_capacity words.old }
 {
-    words[used] = body.len() as u16;
-    words[used + 1..used + 1 + body.len()].copy_from_slice(body);
+    words.push_reserved(body.len() as u16);
+    for code in body {
+        words.push_reserved(*code);
+    }
 }
 
 // Marks the variables of a clause.
 pub(crate) fn join(body: &[u16], marks: &mut [bool])
     requires { inside (length marks.old - 1) body.now ≡ true }
-    ensures { (v : ℕ) → slice_index_or marks.new v false ≡ (slice_index_or marks.old v false || mentions body.now v) }
+    ensures { (v : ℕ) → slice_index_or marks.new v false ≡
+        (slice_index_or marks.old v false || mentions body.now v) }
 {
     for code in body {
         marks[variable(*code)] = true;
@@ -28,21 +35,10 @@ pub(crate) fn join(body: &[u16], marks: &mut [bool])
 // Marks the variables of a list.
 pub(crate) fn join_all(list: &[u16], marks: &mut [bool])
     requires { well (length marks.old - 1) list.now ≡ true }
-    ensures { (v : ℕ) → slice_index_or marks.new v false ≡ (slice_index_or marks.old v false || occurs (read list.now) v) }
+    ensures { (v : ℕ) → slice_index_or marks.new v false ≡
+        (slice_index_or marks.old v false || occurs (read list.now) v) }
 {
-    let mut i = 0;
-    while i < list.len() {
-        let end = i + 1 + list[i] as usize;
-        join(&list[i + 1..end], marks);
-        i = end;
+    for clause in Clauses(list) {
+        join(clause, marks);
     }
-}
-
-// Writes the empty clause, and lets nothing wait.
-pub(crate) fn empty(words: &mut [u16], waiting: &mut [bool])
-    requires { 0 < length words.old }
-    ensures { (slice_index words.new 0 ≡ 0) × ((v : ℕ) → slice_index_or waiting.new v false ≡ false) }
-{
-    words[0] = 0;
-    waiting.fill(false);
 }

@@ -1,4 +1,4 @@
-use Rattle.sheet.proofs.Storing.{Joining}
+use Rattle.sheet.proofs.Marking.{Joining}
 use Rattle.sheet.proofs.store.join.Given as goal
 
 abbrev pub invariant-loop-code : goal.invariant-loop-code

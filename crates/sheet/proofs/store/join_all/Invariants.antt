@@ -1,9 +1,6 @@
-use Rattle.std.proofs.Common.{◌-◌, length}
-use Rattle.sheet.proofs.Storing.{JoiningAll}
+use Rattle.cnf.specs.Words.{read}
+use Rattle.sheet.proofs.Marking.{JoiningAll}
 use Rattle.sheet.proofs.store.join_all.Given as goal
 
-abbrev pub invariant-loop-i : goal.invariant-loop-i
-invariant-loop-i l = JoiningAll l.list l.initial.marks l.marks l.i
-
-abbrev pub decreases-loop-i : goal.decreases-loop-i
-decreases-loop-i l = length l.list - l.i
+abbrev pub invariant-loop-clause : goal.invariant-loop-clause
+invariant-loop-clause l = JoiningAll (read l.list) (read l.clause-iterator.0.now) l.initial.marks l.marks

@@ -1,33 +1,33 @@
-use Rattle.std.proofs.Common.{◌≡◌, length, refl, ap, ◌∙◌, arith}
-use Rattle.classes.specs.Renumber.{below}
-use Rattle.sheet.proofs.Counting.{turns, counts_fixed, counts_tied, counts_free, counts_other, counts_few}
+use Rattle.std.proofs.Common.{⊎_elim, inl, inr, arith}
+use Rattle.sheet.proofs.Counting.{counting_fixed, counting_tied, counting_free, counting_other, counting_few, counting_done}
 use Rattle.sheet.proofs.sweep.count.Goals as goal
-use Rattle.sheet.proofs.sweep.count.Goals.{then-free+then-after-v+then-after-v-lt2, then-free+then-after-v+else-after-v-lt2, else-free, else-free-via-then-free+else-after-v, else-free-via-else-free}
+use Rattle.sheet.proofs.sweep.count.Goals.{else-was-itself-via-then-was-itself+else-now-itself, else-was-itself-via-else-was-itself}
 
-pub loop-v-init : goal.loop-v-init
-loop-v-init c = record { of_fixed = refl; of_tied = refl }
+pub overflow_add-counts : goal.overflow_add-counts
+overflow_add-counts c = let s = c.in-Some.ensures.steps in let k = counting_few c.loop-v.invariant s.0.0 s.0.1 s.2 in omega arith
 
-pub overflow_add-fixed : goal.overflow_add-fixed
-overflow_add-fixed c = let k = counts_few _ _ _ _ _ c.loop-v.invariant in omega arith
+pub overflow_add-counts-else-now-lt2 : goal.overflow_add-counts-else-now-lt2
+overflow_add-counts-else-now-lt2 c = let s = c.in-Some.ensures.steps in let k = counting_few c.loop-v.invariant s.0.0 s.0.1 s.2 in omega arith
 
-pub overflow_add-tied : goal.overflow_add-tied
-overflow_add-tied c = let k = counts_few _ _ _ _ _ c.loop-v.invariant in omega arith
+pub loop-v-preserved-then-now-lt2 : goal.loop-v-preserved-then-now-lt2
+loop-v-preserved-then-now-lt2 c =
+    let s = c.in-Some.ensures.steps in
+    counting_fixed c.loop-v.invariant s.0.0 s.0.1 s.2 (omega arith) (λ z. c.if-now-itself.true (omega arith)) c.if-now-lt2.true
+
+pub loop-v-preserved-else-now-lt2 : goal.loop-v-preserved-else-now-lt2
+loop-v-preserved-else-now-lt2 c =
+    let s = c.in-Some.ensures.steps in
+    counting_tied c.loop-v.invariant s.0.0 s.0.1 s.2 (omega arith) (λ z. c.if-now-itself.true (omega arith)) c.if-now-lt2.false
 
 pub loop-v-preserved : goal.loop-v-preserved
 loop-v-preserved c =
-    elim c.if-free.branch [
-      | then-free+then-after-v+then-after-v-lt2 w ↦ counts_fixed _ _ _ _ _ _ _ c.loop-v.invariant w.if-free.true w.if-after-v.true w.if-after-v-lt2.true w.fixed-is w.tied-is
-      | then-free+then-after-v+else-after-v-lt2 w ↦ counts_tied _ _ _ _ _ _ _ c.loop-v.invariant w.if-free.true w.if-after-v.true w.if-after-v-lt2.false w.fixed-is w.tied-is
-      | else-free w ↦ elim w.else-free.branch [
-        | else-free-via-then-free+else-after-v w' ↦ counts_free _ _ _ _ _ _ _ c.loop-v.invariant w'.if-free.true w'.if-after-v.false w.fixed-is w.tied-is
-        | else-free-via-else-free w' ↦ counts_other _ _ _ _ _ _ _ c.loop-v.invariant w'.if-free.false w.fixed-is w.tied-is
-      ]
+    let s = c.in-Some.ensures.steps in
+    elim c.else-was-itself.branch [
+      | else-was-itself-via-then-was-itself+else-now-itself w ↦ counting_free c.loop-v.invariant s.0.0 s.0.1 s.2 (omega (arith, w.if-was-itself.true)) (omega (arith, w.if-now-itself.false))
+      | else-was-itself-via-else-was-itself w ↦ counting_other c.loop-v.invariant s.0.0 s.0.1 s.2 (λ z. w.if-was-itself.false (omega arith))
     ]
 
 pub returns : goal.returns
 returns c =
-    let w = c.loop-v.invariant in
-    let e : c.loop-v.v ≡ length c.args.before.now = omega arith in (
-      w.of_fixed ∙ ap (below (turns 1 c.args.before.now c.args.after.now)) e,
-      w.of_tied ∙ ap (below (turns 2 c.args.before.now c.args.after.now)) e,
-    )
+    let r = counting_done c.loop-v.invariant (⊎_elim (λ a. inl a.1.0) (λ a. inr a.1.0) c.in-None.ensures.steps.0) c.requires.same_size in
+    record { fixed = r.0; tied = r.1 }

@@ -220,7 +220,7 @@ module _ (marks first rank old : List ℕ) (v m : ℕ) (s : Numbering marks firs
       ⊎_elim (λ (e : v ≡ 0). let z = ap (λ w. get_or rank w 0) e in let t = s.zero in absurd (omega arith)) (λ (e : v ≡ 0 → ⊥). let few = s.few (omega arith) in omega (arith, s.size)) (cases_eq v 0)
 
 -- what occurs is a variable from 1 to n
-mentions_within : (n : ℕ) (c : List ℕ) (v : ℕ) → inside n c ≡ true → mentions c v ≡ true → (1 ≤ v) × (v ≤ n)
+pub mentions_within : (n : ℕ) (c : List ℕ) (v : ℕ) → inside n c ≡ true → mentions c v ≡ true → (1 ≤ v) × (v ≤ n)
 mentions_within n [] v h e = absurd (both_ways false refl e)
 mentions_within n (c ∷ cs) v h e =
     let a : 2 ≤ c = grind (arith, nat_tests) in

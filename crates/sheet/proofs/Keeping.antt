@@ -1,10 +1,9 @@
 -- What holds of every sheet, and the spaces that hold one. Assumes nothing.
-use Rattle.std.proofs.Common.{◌≡◌, ℕ, ◌-◌, ◌/◌, ◌<◌, ◌≤◌, Bool, true, false, eqb, List, [], ◌∷◌, length, get_or, replicate, vec_items, Vec, sym, refl, ap, ◌∙◌, subst, ⊎_elim, arith}
+use Rattle.std.proofs.Common.{◌≡◌, ℕ, ◌-◌, ◌<◌, ◌≤◌, Bool, true, false, eqb, List, [], ◌∷◌, length, get_or, replicate, vec_items, Vec, sym, refl, ap, ◌∙◌, subst, ⊎_elim, arith}
 use mathlib.Core.Path.{fun_ext}
 use Rattle.std.specs.declared.alloc.Global.{Global}
 use Rattle.std.proofs.lemmas.List.{get_or_past, get_or-replicate, length-replicate}
 use Rattle.std.proofs.lemmas.Bool.{both_ways, cases_eq, cases_lt, cases_Bool, eq-eqb, ne_eqb, eqb-true, or_left, or_right, or_cases}
-use Rattle.cnf.specs.Truth.{opp}
 use Rattle.cnf.specs.Words.{read, encode, well, goods}
 use Rattle.cnf.specs.Table.{rep, has, Own, Tabled}
 use Rattle.cnf.proofs.Reading.{read_means, read-encode, well-encode, read-cons, read-nil, well-cons}

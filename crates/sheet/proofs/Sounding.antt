@@ -1,12 +1,13 @@
 -- What holds of a sheet holds after each call. Assumes nothing.
-use Rattle.std.proofs.Common.{◌≡◌, ℕ, ◌+◌, ◌-◌, ◌*◌, ◌/◌, ◌≤◌, true, false, eqb, leb, List, [], ◌∷◌, ◌++◌, length, Some, sym, refl, ap, ◌∙◌, ⊎_elim, arith}
+use Rattle.std.proofs.Common.{◌≡◌, ℕ, ◌+◌, ◌-◌, ◌≤◌, true, false, leb, List, [], ◌∷◌, ◌++◌, length, Some, sym, refl, ap, ◌∙◌, ⊎_elim, arith}
 use Rattle.std.proofs.lemmas.List.{append-nil, append_assoc, length-append}
-use Rattle.std.proofs.lemmas.Bool.{both_ways, and_parts, and_from, or_cases, eqb-true, leb-true, le-leb}
-use Rattle.cnf.specs.Truth.{named, inside}
+use Rattle.std.proofs.lemmas.Bool.{both_ways, and_parts, and_from, or_cases, le-leb}
+use Rattle.cnf.specs.Truth.{inside}
 use Rattle.cnf.specs.Words.{encode, good, goods}
 use Rattle.cnf.specs.Table.{Own}
 use Rattle.classes.specs.Renumber.{mentions, occurs}
 use Rattle.propagation.specs.Follow.{OwnEach}
+use Rattle.classes.proofs.Making.{mentions_within, occurs_within}
 use Rattle.sheet.specs.State.{State, broken, Sound}
 use Rattle.sheet.specs.Calls.{contradicted, joined, used, woken, Storable}
 
@@ -57,27 +58,6 @@ broken_push [] c d = refl
 broken_push ([] ∷ cs) c d = refl
 broken_push ((e ∷ es) ∷ cs) c d = broken_push cs c d
 
--- the variables of good clauses are nets
-pub mentions_net : (n : ℕ) (c : List ℕ) (v : ℕ) → inside n c ≡ true → mentions c v ≡ true → (1 ≤ v) × (v ≤ n)
-mentions_net n [] v h e = absurd (both_ways false refl e)
-mentions_net n (c ∷ cs) v h e =
-    let p = and_parts (named n c) (inside n cs) h in
-    ⊎_elim
-    (λ (q : eqb (c / 2) v ≡ true).
-    let z = eqb-true (c / 2) v q in
-    let r = and_parts (leb 2 c) (leb c (2 * n + 1)) p.0 in
-    let a = leb-true 2 c r.0 in
-    let b = leb-true c (2 * n + 1) r.1 in
-    (omega arith, omega arith))
-    (λ q. mentions_net n cs v p.1 q) (or_cases (eqb (c / 2) v) (mentions cs v) e)
-
-pub occurs_net : (n : ℕ) (cs : List (List ℕ)) (v : ℕ) → goods n cs ≡ true → occurs cs v ≡ true → (1 ≤ v) × (v ≤ n)
-occurs_net n [] v h e = absurd (both_ways false refl e)
-occurs_net n (c ∷ cs) v h e =
-    let p = and_parts (good n c) (goods n cs) h in
-    ⊎_elim (λ q. mentions_net n c v (and_parts (leb (length c) 64) (inside n c) p.0).1 q) (λ q. occurs_net n cs v p.1 q) (or_cases (mentions c v) (occurs cs v) e)
-
-pub sound_joined : (s : State) (c : ℕ) (d : List ℕ) → Sound s → Storable s (c ∷ d) → used (joined s (Some (c ∷ d))) ≤ s.space → Sound (joined s (Some (c ∷ d)))
 sound_joined s c d w h l = record {
   few = w.few;
   size = w.size;
@@ -90,7 +70,7 @@ sound_joined s c d w h l = record {
   room = l;
   alone = λ b. absurd (both_ways _ (broken_push s.store c d ∙ h.alive) b);
   quiet = λ b. absurd (both_ways _ (broken_push s.store c d ∙ h.alive) b);
-  nets_wait = λ v e. ⊎_elim (λ q. w.nets_wait v q) (λ q. mentions_net s.nets (c ∷ d) v h.known q) (or_cases (s.waiting v) (mentions (c ∷ d) v) e);
+  nets_wait = λ v e. ⊎_elim (λ q. w.nets_wait v q) (λ q. mentions_within s.nets (c ∷ d) v h.known q) (or_cases (s.waiting v) (mentions (c ∷ d) v) e);
 }
   where
     nets : length s.table - 1 ≡ s.nets
@@ -106,6 +86,6 @@ sound_woken s w h = record {
   quiet = λ b. absurd (both_ways _ h b);
   nets_wait = λ v e.
       ⊎_elim (λ q. w.nets_wait v q)
-      (λ q. let n : length s.table - 1 ≡ s.nets = omega (arith, w.size) in occurs_net s.nets s.store v (ap (λ k. goods k s.store) (sym n) ∙ w.reduced.good) q)
+      (λ q. let n : length s.table - 1 ≡ s.nets = omega (arith, w.size) in occurs_within s.nets s.store v (ap (λ k. goods k s.store) (sym n) ∙ w.reduced.good) q)
       (or_cases (s.waiting v) (occurs s.store v) e);
 }

@@ -37,7 +37,7 @@ fn sweep_numbered<S: Solver>(
     bits: &mut [bool],
     table: &mut [u16],
 ) -> bool
-    requires size { (Room (length table.old) old.now names.old split.old spare.old bits.old) × ((m < length table.old) × ((length table.old ≤ 2001) × (m ≤ S.most))) }
+    requires size { (Room (length table.old) old.now names.old split.old spare.old bits.old) × ((m < length table.old) × ((length table.old ≤ 2001) × (m ≤ S.CAPACITY))) }
     requires good { well m work.old ≡ true }
     requires rises { Rises old.now (length table.old - 1) m }
     ensures answer { CarriedBack m (read work.old) old.now table.old table.new result }
@@ -67,7 +67,7 @@ pub fn sweep_group<S: Solver>(
     work: &mut [u16],
     table: &mut [u16],
 ) -> Result<bool, SheetFault>
-    ensures answer { Grouped S.tally S.most (vec_len scratch.entry.now.rank) list.now (length work.old) table.old table.new solver.old solver.new result }
+    ensures answer { Grouped S.tally S.CAPACITY (vec_len scratch.entry.now.rank) list.now (length work.old) table.old table.new solver.old solver.new result }
     ensures size { vec_len scratch.exit.now.rank ≡ vec_len scratch.entry.now.rank }
 {
     let size = scratch.rank.len();
@@ -81,7 +81,7 @@ pub fn sweep_group<S: Solver>(
         return Err(SheetFault::SpaceShort);
     }
     let m = renumber(list, work, &mut scratch.rank, &mut scratch.old);
-    if m > S::limit() {
+    if m > S::CAPACITY {
         return Err(SheetFault::Capacity);
     }
     let found = sweep_numbered(

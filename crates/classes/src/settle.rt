@@ -13,7 +13,7 @@ use words::apply::apply_all;
 
 // A search that cannot be refused.
 pub(crate) fn ask<S: Solver>(solver: &mut S, m: usize, list: &[u16], assumed: &[u16]) -> bool
-    requires { accepts S.most m list.now assumed.now ≡ true }
+    requires { accepts S.CAPACITY m list.now assumed.now ≡ true }
     ensures answer { Asked m list.now assumed.now (S.kept solver.new) result }
     ensures tallied { S.tally solver.new ≤ S.tally solver.old + 1 }
 {
@@ -33,7 +33,7 @@ pub(crate) fn look<S: Solver>(solver: &S, code: u16) -> bool
 
 // Looks for a model in which a variable and a lower literal differ. Either of them can be the true one, so both ways are searched.
 fn differ<S: Solver>(solver: &mut S, m: usize, list: &[u16], v: usize, old: u16) -> bool
-    requires { (m ≤ S.most) × ((well m list.now ≡ true) × ((1 ≤ v) × ((v ≤ m) × (old / 2 ≤ v)))) }
+    requires { (m ≤ S.CAPACITY) × ((well m list.now ≡ true) × ((1 ≤ v) × ((v ≤ m) × (old / 2 ≤ v)))) }
     ensures answer { Differs m (read list.now) (2 * v) old (S.kept solver.new) result }
     ensures tallied { S.tally solver.new ≤ S.tally solver.old + 2 }
 {
@@ -73,7 +73,7 @@ pub(crate) fn settle<S: Solver>(
     spare: &mut [u16],
     bits: &mut [bool],
 ) -> usize
-    requires size { (Spaces m names.old split.old spare.old bits.old) × ((left ≤ length work.old) × ((m ≤ S.most) × ((1 ≤ v) × (v ≤ m)))) }
+    requires size { (Spaces m names.old split.old spare.old bits.old) × ((left ≤ length work.old) × ((m ≤ S.CAPACITY) × ((1 ≤ v) × (v ≤ m)))) }
     requires good { well m (take left work.old) ≡ true }
     requires tabled { Tabled names.old }
     requires plain { Plain spare.old }

@@ -29,7 +29,7 @@ pub(crate) fn sweep_set<S: Solver>(
     spare: &mut [u16],
     bits: &mut [bool],
 ) -> bool
-    requires size { (Spaces m names.old split.old spare.old bits.old) × (m ≤ S.most) }
+    requires size { (Spaces m names.old split.old spare.old bits.old) × (m ≤ S.CAPACITY) }
     requires good { well m work.old ≡ true }
     ensures answer { Sweeps m (read work.old) names.new result }
     ensures tallied { S.tally solver.new ≤ S.tally solver.old + 2 * m + 1 }

@@ -43,17 +43,13 @@ impl CountingSolver {
 impl Solver for CountingSolver {
     const CAPACITY: usize = 20;
 
+    ghost CAPACITY = { 20 };
+
     ghost tally = { λ s. s.tally };
 
     ghost kept = { λ s. kept_by s.kept.present s.kept.bits.items };
 
-    ghost most = { 20 };
-
     ghost bounds = { Prim.search rules };
-
-    fn limit() -> usize {
-        Self::CAPACITY
-    }
 
     fn search(&mut self, m: usize, list: &[u16], assumed: &[u16]) -> Result<bool, SolverFault> {
         if !is_accepted(Self::CAPACITY, m, list, assumed) {

@@ -39,17 +39,13 @@ impl SearchSolver {
 impl Solver for SearchSolver {
     const CAPACITY: usize = 2000;
 
+    ghost CAPACITY = { 2000 };
+
     ghost tally = { λ s. s.tally };
 
     ghost kept = { λ s. kept_by s.kept.present s.kept.bits.items };
 
-    ghost most = { 2000 };
-
     ghost bounds = { Prim.search rules };
-
-    fn limit() -> usize {
-        Self::CAPACITY
-    }
 
     fn search(&mut self, m: usize, list: &[u16], assumed: &[u16]) -> Result<bool, SolverFault> {
         if !is_accepted(Self::CAPACITY, m, list, assumed) {

@@ -90,7 +90,7 @@ impl Sheet {
         solver: &mut S,
         work: &mut [u16],
     ) -> Result<Outcome, SheetFault>
-        ensures does { Does (sweep_refusal S.most (length work.old) (state_of self.old)) (state_of self.old) (full_swept (state_of self.old)) (outcome (state_of self.old) (full_swept (state_of self.old))) (state_of self.new) result }
+        ensures does { Does (sweep_refusal S.CAPACITY (length work.old) (state_of self.old)) (state_of self.old) (full_swept (state_of self.old)) (outcome (state_of self.old) (full_swept (state_of self.old))) (state_of self.new) result }
         ensures law { Sweeps (state_of self.old) (state_of self.new) result }
         ensures served { Serves S.tally (state_of self.old) solver.old solver.new result }
     {

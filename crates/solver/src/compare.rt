@@ -15,7 +15,7 @@ fn implies<S: Solver>(
     c: u16,
     d: u16,
 ) -> Result<bool, SolverFault>
-    ensures implied { Implied S.most m list.now c d result }
+    ensures implied { Implied S.CAPACITY m list.now c d result }
     ensures tallied { S.tally solver.new ≤ S.tally solver.old + 1 }
 {
     let found = solver.search(m, list, &[c, opposite(d)])?;
@@ -30,7 +30,7 @@ pub fn equal_over<S: Solver>(
     c: u16,
     d: u16,
 ) -> Result<bool, SolverFault>
-    ensures compared { Compared S.most m list.now c d result }
+    ensures compared { Compared S.CAPACITY m list.now c d result }
     ensures tallied { S.tally solver.new ≤ S.tally solver.old + 2 }
 {
     if !implies(solver, m, list, c, d)? {

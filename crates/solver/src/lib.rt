@@ -15,22 +15,18 @@ pub trait Solver {
     // The largest number of variables.
     const CAPACITY: usize;
 
+    // The same number, for contracts.
+    ghost CAPACITY: { ℕ };
+
     // How many searches were accepted.
     ghost tally: { Self → ℕ };
 
     // The assignment that is kept, the bits of the variables from 1 on, if one is.
     ghost kept: { Self → Option (List Bool) };
 
-    // The capacity, for contracts.
-    ghost most: { ℕ };
-
-    // The capacity.
-    fn limit() -> usize
-        ensures { result ≡ most };
-
     // Whether some model of the list over m variables makes every assumed literal true: such a one is kept then, and else nothing.
     fn search(&mut self, m: usize, list: &[u16], assumed: &[u16]) -> Result<bool, SolverFault>
-        ensures { Searched tally kept most m list.now assumed.now self.old self.new result };
+        ensures { Searched tally kept CAPACITY m list.now assumed.now self.old self.new result };
 
     // The kept bit of a variable.
     fn value(&self, v: usize) -> Result<bool, SolverFault>
@@ -42,5 +38,5 @@ pub trait Solver {
         ensures after { kept self.new ≡ left (kept self.old) v result }
         ensures tallied { tally self.new ≡ tally self.old };
 
-    ghost bounds: { (1 ≤ most) × (most ≤ 2000) };
+    ghost bounds: { (1 ≤ CAPACITY) × (CAPACITY ≤ 2000) };
 }

@@ -31,7 +31,7 @@ sweep_numbered-found-requires g c =
           spare_size = c.deref_mut-5.ensures.len ∙ all.3 ∙ sym t;
           bits_size = c.deref_mut-6.ensures.len ∙ all.4 ∙ sym t;
         },
-        (omega arith, (omega arith, omega (arith, c.limit.ensures))),
+        (omega arith, (omega arith, omega (arith, c.CAPACITY.ensures))),
       );
       good = small_well list work rank old n m h s;
       rises = subst (λ x. Rises x (length c.args.table.now - 1) m) (sym o) (subst (λ x. Rises old (x - 1) m) (sym t) (rises (read list) n m rank old s.tables));
@@ -54,7 +54,7 @@ returns g c =
     let b = c.sweep_numbered-found.result in
     record {
       answer = (
-        not_refused _ _ _ m list t (omega (arith, c.len-size.ensures)) h (omega arith) s.count (omega (arith, c.limit.ensures)),
+        not_refused _ _ _ m list t (omega (arith, c.len-size.ensures)) h (omega arith) s.count (omega (arith, c.CAPACITY.ensures)),
         group_back list work rank old n m h s t u b (subst (λ x. CarriedBack m (read (take (length list) work)) x t u b) o c.sweep_numbered-found.ensures.answer),
         omega (arith, c.sweep_numbered-found.ensures.tallied, s.count),
       );

@@ -16,7 +16,7 @@ returns-in_err-found g c =
     let s = c.args.self.now in
     let p = err_from_is_err_and c.from_residual.result c.from_residual.ensures.1 in
     let z = c.in_err-found.ensures.answer in
-    let same = refusal_same s _ g.S.Solver.most (length c.args.work.now) _ _ c.if-is_contradictory.ensures s.spaces.4 (front s.used _ _ c.deref.ensures.value)
+    let same = refusal_same s _ g.S.Solver.CAPACITY (length c.args.work.now) _ _ c.if-is_contradictory.ensures s.spaces.4 (front s.used _ _ c.deref.ensures.value)
     (c.deref_mut-2.ensures.len ∙ s.spaces.2 ∙ sym s.spaces.4) in
     let a = refused g.S.Solver.tally c.args.solver.now c.sweep_group.new.solver (state_of s) _ c.from_residual.result c.in_err-found.field-0.0
     (p.1 ∙ ap Err p.2) (sym same ∙ z.0) z.2 in
@@ -46,7 +46,7 @@ returns g c =
     let front_part = front s.used _ _ c.deref.ensures.value in
     let own = plain_entries s c.reset.new.entries _ (c.reset.auto.entries ∙ c.deref_mut.ensures.len) c.reset.ensures c.deref_mut-2.ensures.value in
     let items = with_items_is (with_items s.news c.reset.new.entries) c.sweep_group.new.table (c.sweep_group.auto.table ∙ c.deref_mut-2.ensures.len) in
-    let same = refusal_same s _ g.S.Solver.most (length c.args.work.now) _ _ c.if-is_contradictory.ensures s.spaces.4 front_part
+    let same = refusal_same s _ g.S.Solver.CAPACITY (length c.args.work.now) _ _ c.if-is_contradictory.ensures s.spaces.4 front_part
     (c.deref_mut-2.ensures.len ∙ s.spaces.2 ∙ sym s.spaces.4) in
     let state : state_of u ≡ swept (state_of s).store (state_of s) =
     c.take_over-outcome.ensures.state

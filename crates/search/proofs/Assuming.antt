@@ -1,11 +1,9 @@
 -- The loop over the assumed literals, and what a search for a model under them comes to. Assumes nothing.
-use Rattle.std.proofs.Common.{◌≡◌, ℕ, ◌+◌, ◌<◌, ◌≤◌, Bool, true, false, ◌&&◌, List, length, get_or, drop, MatchBool, sym, refl, ap, ◌∙◌, subst}
+use Rattle.std.proofs.Common.{◌≡◌, ℕ, ◌+◌, ◌<◌, ◌≤◌, Bool, true, false, ◌&&◌, List, length, get_or, drop, MatchBool, sym, refl, ap, ◌∙◌, subst, Option, Some}
 use Rattle.std.proofs.lemmas.List.{at_drop_more, at_drop_all}
 use Rattle.std.proofs.lemmas.Bool.{and_parts, both_ways}
 use Rattle.cnf.specs.Truth.{lit, named, inside}
 use Rattle.solver.specs.Search.{every, Found, NoneFound}
-use Rattle.search.specs.declared.cell.Cell.{Cell}
-use Rattle.search.specs.declared.cell.Cell.TheVariants.{No, Yes}
 use Rattle.search.specs.declared.state.State.{State}
 use Rattle.search.specs.Cells.{Extends, look, assigned, bits}
 use Rattle.search.specs.States.{Sound, Grew, Assumed, cells_of}
@@ -30,7 +28,7 @@ module _ (ws : List ℕ) (s t : State) (i : ℕ) (p : Assuming ws s t i) (b : i 
   pub assuming_known : named (length (cells_of t)) (get_or ws i 0) ≡ true
   assuming_known = (named_at (length (cells_of t)) ws i b p.known).0
 
-  pub assuming_yes : Yes ≡ look (cells_of t) (get_or ws i 0) → Assuming ws s t (i + 1)
+  pub assuming_yes : Some true ≡ look (cells_of t) (get_or ws i 0) → Assuming ws s t (i + 1)
   assuming_yes l = record {
     grew = p.grew;
     sound = p.sound;
@@ -39,7 +37,7 @@ module _ (ws : List ℕ) (s t : State) (i : ℕ) (p : Assuming ws s t i) (b : i 
     rest = λ a e. p.rest a e ∙ every_more a true (lit_true (cells_of t) a (get_or ws i 0) assuming_known l e);
   }
 
-  pub assuming_no : No ≡ look (cells_of t) (get_or ws i 0) → Assumed ws s t false
+  pub assuming_no : Some false ≡ look (cells_of t) (get_or ws i 0) → Assumed ws s t false
   assuming_no l = λ a e m.
       let x = p.onto a e m in
       both_ways (every a ws) (p.rest a x ∙ every_more a false (lit_false (cells_of t) a (get_or ws i 0) assuming_known l x)) m
@@ -55,7 +53,7 @@ module _ (ws : List ℕ) (s t : State) (i : ℕ) (p : Assuming ws s t i) (b : i 
         onto = λ a e m.
             let x = p.onto a e m in
             let y = and_parts (lit a w) _ (sym (at_drop_more (every a) ws i 0 b) ∙ sym (p.rest a x) ∙ m) in
-            let P : List Cell → Type 0 = λ c. Extends c a in
+            let P : List (Option Bool) → Type 0 = λ c. Extends c a in
             subst P (sym cs) (extend_assigned (cells_of t) w a assuming_known y.0 x);
         rest = λ a e.
             p.rest a (g.finer a e)

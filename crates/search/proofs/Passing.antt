@@ -1,12 +1,10 @@
 -- The loop over the clauses of a list. Assumes nothing.
-use Rattle.std.proofs.Common.{◌≡◌, ℕ, ◌+◌, ◌<◌, ◌≤◌, Bool, true, false, ◌&&◌, List, length, get_or, take, drop, sym, refl, ap, ◌∙◌, subst, arith}
+use Rattle.std.proofs.Common.{◌≡◌, ℕ, ◌+◌, ◌<◌, ◌≤◌, Bool, true, false, ◌&&◌, List, length, get_or, take, drop, sym, refl, ap, ◌∙◌, subst, arith, Option, None}
 use Rattle.std.proofs.lemmas.List.{at_drop_all}
 use Rattle.std.proofs.lemmas.Bool.{and_parts, both_ways}
 use Rattle.cnf.specs.Truth.{told, lit, clause, clauses, named}
 use Rattle.cnf.specs.Words.{read, well}
 use Rattle.cnf.proofs.Reading.{clause_here, read_more, read-nil}
-use Rattle.search.specs.declared.cell.Cell.{Cell}
-use Rattle.search.specs.declared.cell.Cell.TheVariants.{Open}
 use Rattle.search.specs.declared.state.State.{State}
 use Rattle.search.specs.Cells.{Extends, look, assigned, open_count, bits}
 use Rattle.search.specs.States.{Sound, Grew, Keeps, Dead, Settled, cells_of}
@@ -62,7 +60,7 @@ module _ (ws : List ℕ) (s t : State) (i : ℕ) (moved : Bool) (p : Passing ws 
   }
 
   -- a clause forces a literal
-  pub passing_force : (u : State) (w : ℕ) → named (length (cells_of t)) w ≡ true → look (cells_of t) w ≡ Open
+  pub passing_force : (u : State) (w : ℕ) → named (length (cells_of t)) w ≡ true → look (cells_of t) w ≡ None
       → ((a : ℕ → Bool) → Extends (cells_of t) a → clause a (clause_at ws i) ≡ lit a w) → Grew t u → Sound u → cells_of u ≡ assigned (cells_of t) w
       → Passing ws s u (i + 1 + get_or ws i 0) true
   passing_force u w n o f g h cs = record {
@@ -71,7 +69,7 @@ module _ (ws : List ℕ) (s t : State) (i : ℕ) (moved : Bool) (p : Passing ws 
     formed = ap (λ k. well k (drop (i + 1 + get_or ws i 0) ws)) g.size ∙ (clause_here (length (cells_of t)) ws i b p.formed).good;
     keeps = λ a e m.
         let x = p.keeps a e m in
-        let P : List Cell → Type 0 = λ c. Extends c a in
+        let P : List (Option Bool) → Type 0 = λ c. Extends c a in
         subst P (sym cs) (extend_assigned (cells_of t) w a n (sym (f a x) ∙ (clause_true a m).0) x);
     rest = λ a m. (clause_true a m).1;
     progress = omega (arith, p.grew.fewer, ap open_count cs, count_assigned (cells_of t) w n o);

@@ -1,11 +1,9 @@
 -- The state of a search. Assumes nothing.
-use Rattle.std.proofs.Common.{◌≡◌, ℕ, ◌+◌, ◌/◌, ◌<◌, ◌≤◌, true, false, not, List, [], ◌∷◌, ◌++◌, length, get_or, take, drop, set, vec_len, sym, refl, ap, ◌∙◌, subst, ⊎_elim, append_assoc, arith}
+use Rattle.std.proofs.Common.{◌≡◌, ℕ, ◌+◌, ◌/◌, ◌<◌, ◌≤◌, true, false, not, List, [], ◌∷◌, ◌++◌, length, get_or, take, drop, set, vec_len, sym, refl, ap, ◌∙◌, subst, ⊎_elim, append_assoc, arith, Option, None, Bool}
 use Rattle.std.proofs.lemmas.List.{length-set, length-append, length_push, get_or_push, get_or_append_left, drop-append-le, take-append-le, drop_at, take_at, append-nil}
 use Rattle.std.proofs.lemmas.Bool.{cases_lt, cases_Bool}
 use Rattle.cnf.specs.Truth.{opp, lit, named}
 use Rattle.cnf.proofs.Tables.{lit-opp}
-use Rattle.search.specs.declared.cell.Cell.{Cell}
-use Rattle.search.specs.declared.cell.Cell.TheVariants.{Open}
 use Rattle.search.specs.declared.state.State.{State}
 use Rattle.search.specs.Cells.{Extends, look, place_of, assigned, restored, open_count}
 use Rattle.search.specs.States.{Sound, Grew, Same, Dead, cells_of, trail_of, room_of}
@@ -17,7 +15,7 @@ module _
     (s t : State)
     (w : ℕ)
     (n : named (length (cells_of s)) w ≡ true)
-    (o : look (cells_of s) w ≡ Open)
+    (o : look (cells_of s) w ≡ None)
     (cs : cells_of t ≡ assigned (cells_of s) w)
     (tr : trail_of t ≡ trail_of s ++ place_of w ∷ [])
     (rm : room_of t ≡ room_of s)
@@ -33,7 +31,7 @@ module _
       more = place_of w ∷ [];
       trail = tr;
       back = ap (λ c. restored c (place_of w ∷ [])) cs ∙ restored-assigned (cells_of s) w o;
-      finer = λ a e. finer_assigned (cells_of s) w a o (let P : List Cell → Type 0 = λ c. Extends c a in subst P cs e);
+      finer = λ a e. finer_assigned (cells_of s) w a o (let P : List (Option Bool) → Type 0 = λ c. Extends c a in subst P cs e);
       size = assign_size;
       fewer = omega (arith, assign_count);
       room = rm;
@@ -61,9 +59,9 @@ module _ (s t : State) (i : ℕ) (tr : trail_of s ≡ trail_of t ++ i ∷ []) wh
       let b : n < length (trail_of s) = omega (arith, ap length tr, length_push (trail_of t) i) in
       omega (arith, h.places n b, ap (λ xs. get_or xs n 0) tr, get_or_push (trail_of t) i 0 n refl)
 
-  pub undo_sound : Sound s → cells_of t ≡ set (cells_of s) i Open → vec_len t.trail + 1 ≡ vec_len s.trail → room_of t ≡ room_of s → Sound t
+  pub undo_sound : Sound s → cells_of t ≡ set (cells_of s) i None → vec_len t.trail + 1 ≡ vec_len s.trail → room_of t ≡ room_of s → Sound t
   undo_sound h cs l rm =
-      let size = ap length cs ∙ length-set (cells_of s) i Open in
+      let size = ap length cs ∙ length-set (cells_of s) i None in
       record {
         room = omega (arith, h.room, ap open_count cs, count_opened (cells_of s) i (last_inside h), ap (λ p. p.1) rm);
         places = λ k b.
@@ -77,7 +75,7 @@ module _ (s t : State) (i : ℕ) (tr : trail_of s ≡ trail_of t ++ i ∷ []) wh
         small = omega (arith, h.small, size);
       }
 
-  pub undo_cells : (mark : ℕ) → mark ≤ length (trail_of t) → restored (set (cells_of s) i Open) (drop mark (trail_of t)) ≡ restored (cells_of s) (drop mark (trail_of s))
+  pub undo_cells : (mark : ℕ) → mark ≤ length (trail_of t) → restored (set (cells_of s) i None) (drop mark (trail_of t)) ≡ restored (cells_of s) (drop mark (trail_of s))
   undo_cells mark h =
       sym (restored_push (cells_of s) (drop mark (trail_of t)) i)
       ∙ ap (restored (cells_of s)) (sym (ap (drop mark) tr ∙ drop-append-le mark (trail_of t) (i ∷ []) h))
@@ -110,7 +108,7 @@ same_grew s t e = record {
   more = [];
   trail = e.trail ∙ sym (append-nil (trail_of s));
   back = e.cells;
-  finer = λ a x. let P : List Cell → Type 0 = λ c. Extends c a in subst P e.cells x;
+  finer = λ a x. let P : List (Option Bool) → Type 0 = λ c. Extends c a in subst P e.cells x;
   size = ap length e.cells;
   fewer = omega (arith, ap open_count e.cells);
   room = e.room;
@@ -139,18 +137,18 @@ filled_grew ws s t u g f = record { every_set = f.every_set; as_before = g.finer
 -- no model where a literal is true, and none where it is false
 pub dead_both : (ws : List ℕ) (s t u : State) (w w' : ℕ) → w' ≡ opp w → NotWith w ws s t → NotWith w' ws t u → Dead ws s
 dead_both ws s t u w w' o x y = λ a e m.
-    let P : List Cell → Type 0 = λ c. Extends c a in
+    let P : List (Option Bool) → Type 0 = λ c. Extends c a in
     ⊎_elim
     (λ (l : lit a w ≡ true). x.none a e l m)
     (λ (l : lit a w ≡ false). y.none a (subst P (sym x.same.cells) e) (ap (lit a) o ∙ lit-opp a w ∙ ap not l) m)
     (cases_Bool (lit a w))
 
 -- the literals of an open place
-module _ (c' c : List Cell) (p w : ℕ) (e : c' ≡ c) (h : (p < length c') × (get_or c' p Open ≡ Open)) (at : w / 2 ≡ p + 1) where
+module _ (c' c : List (Option Bool)) (p w : ℕ) (e : c' ≡ c) (h : (p < length c') × (get_or c' p None ≡ None)) (at : w / 2 ≡ p + 1) where
   pub known_at : named (length c) w ≡ true
   known_at = let l = ap length e in named_from (length c) w (omega arith) (omega (arith, h.0))
 
-  pub free_at : look c w ≡ Open
+  pub free_at : look c w ≡ None
   free_at =
       let z : place_of w ≡ p = omega arith in
-      open_look c w (ap (λ i. get_or c i Open) z ∙ sym (ap (λ x. get_or x p Open) e) ∙ h.1)
+      open_look c w (ap (λ i. get_or c i None) z ∙ sym (ap (λ x. get_or x p None) e) ∙ h.1)

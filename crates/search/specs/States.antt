@@ -1,15 +1,14 @@
 -- The state of a search, and what its steps do. Assumes nothing.
-use Rattle.std.specs.Prelude.{◌≡◌, ℕ, ◌+◌, ◌<◌, ◌≤◌, Bool, true, false, List, ◌++◌, length, vec_items, vec_len, vec_capacity, ◌≢◌, slice_index}
+use Rattle.std.specs.Prelude.{◌≡◌, ℕ, ◌+◌, ◌<◌, ◌≤◌, Bool, true, false, List, Option, ◌++◌, length, vec_items, vec_len, vec_capacity, ◌≢◌, slice_index}
 use Rattle.cnf.specs.Truth.{told, clauses}
 use Rattle.cnf.specs.Words.{read}
 use Rattle.solver.specs.Search.{every}
-use Rattle.search.specs.declared.cell.Cell.{Cell}
 use Rattle.search.specs.declared.state.Pass.{Pass}
 use Rattle.search.specs.declared.state.Pass.TheVariants.{Refuted, Moved, Quiet}
 use Rattle.search.specs.declared.state.State.{State}
 use Rattle.search.specs.Cells.{Extends, open_count, bits, restored}
 
-abbrev pub cells_of : State → List Cell
+abbrev pub cells_of : State → List (Option Bool)
 cells_of s = vec_items s.cells
 
 abbrev pub trail_of : State → List ℕ

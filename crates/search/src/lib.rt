@@ -2,7 +2,6 @@
 #![tactic(auto)]
 
 ghost use Rattle.std.specs.Prelude.{◌≡◌, IfOk, None};
-ghost use Rattle.solver.specs.Search.{kept_by};
 ghost use Rattle.std.proofs.Common.{rules};
 
 mod cell;
@@ -20,17 +19,13 @@ use std::alloc::{AllocError, Global};
 impl SearchSolver {
     // A solver that has searched nothing yet.
     pub fn new(heap: Global) -> Result<SearchSolver, AllocError>
-        ensures { IfOk result (λ s. (s.tally ≡ 0) × (kept_by s.kept.present s.kept.bits.items ≡ None)) }
+        ensures { IfOk result (λ s. (s.tally ≡ 0) × (s.kept.bits ≡ None)) }
     {
         let cells = Vec::with_capacity(heap, Self::CAPACITY)?;
         let trail = Vec::with_capacity(heap, Self::CAPACITY)?;
-        let bits = Vec::with_capacity(heap, Self::CAPACITY)?;
         Ok(SearchSolver {
             state: State { cells, trail },
-            kept: Kept {
-                bits,
-                present: false,
-            },
+            kept: Kept::with_capacity(heap, Self::CAPACITY)?,
             tally: 0,
         })
     }
@@ -43,7 +38,7 @@ impl Solver for SearchSolver {
 
     ghost tally = { λ s. s.tally };
 
-    ghost kept = { λ s. kept_by s.kept.present s.kept.bits.items };
+    ghost kept = { λ s. s.kept.bits };
 
     ghost bounds = { Prim.search rules };
 
@@ -56,7 +51,7 @@ impl Solver for SearchSolver {
         if found {
             keep(&self.state.cells, &mut self.kept);
         } else {
-            self.kept.present = false;
+            self.kept.clear();
         }
         Ok(found)
     }

@@ -1,5 +1,5 @@
 // The search: a partial assignment, and the trail of the places that were set.
-ghost use Rattle.std.specs.Prelude.{◌≡◌, ◌+◌, ◌≤◌, true, length, take, drop, replicate, vec_len, vec_capacity, MatchBool};
+ghost use Rattle.std.specs.Prelude.{◌≡◌, ◌+◌, ◌≤◌, true, length, None, Some, take, drop, replicate, vec_len, vec_capacity, MatchBool};
 ghost use Rattle.cnf.specs.Truth.{named, inside};
 ghost use Rattle.cnf.specs.Words.{well};
 ghost use Rattle.solver.specs.Search.{Found, NoneFound};
@@ -7,14 +7,14 @@ ghost use Rattle.search.specs.Cells.{bits, look, assigned, restored, open_count}
 ghost use Rattle.search.specs.States.{Sound, Grew, Passed, Propagated, Assumed, cells_of, trail_of, room_of};
 ghost use Rattle.search.specs.Solving.{Solved, Tried};
 
-use crate::cell::{Cell, Status, first_open, is_yes, look_at, made_by, weigh};
+use crate::cell::{Status, first_open, look_at, made_by, weigh};
 use cnf::literal::opposite;
 use solver::kept::Kept;
 
 // The cell of the variable v is at the place v - 1.
 #[derive(Drop)]
 pub(crate) struct State {
-    pub(crate) cells: Vec<Cell>,
+    pub(crate) cells: Vec<Option<bool>>,
     pub(crate) trail: Vec<u16>,
 }
 
@@ -31,7 +31,7 @@ impl State {
     pub(crate) fn assign(&mut self, code: u16)
         requires sound { Sound self.old }
         requires known { named (length (cells_of self.old)) code ≡ true }
-        requires free { look (cells_of self.old) code ≡ Cell.Open }
+        requires free { look (cells_of self.old) code ≡ None }
         ensures cells { cells_of self.new ≡ assigned (cells_of self.old) code }
         ensures count { open_count (cells_of self.new) + 1 ≡ open_count (cells_of self.old) }
         ensures grew { Grew self.old self.new }
@@ -54,7 +54,7 @@ impl State {
     {
         while self.trail.len() > mark {
             if let Some(place) = self.trail.pop() {
-                self.cells[place as usize] = Cell::Open;
+                self.cells[place as usize] = None;
             }
         }
     }
@@ -136,7 +136,7 @@ impl State {
         requires sound { Sound self.old }
         requires formed { well (length (cells_of self.old)) list.now ≡ true }
         requires known { named (length (cells_of self.old)) code ≡ true }
-        requires free { look (cells_of self.old) code ≡ Cell.Open }
+        requires free { look (cells_of self.old) code ≡ None }
         ensures sound { Sound self.new }
         ensures size { length (cells_of self.new) ≡ length (cells_of self.old) }
         ensures room { room_of self.new ≡ room_of self.old }
@@ -156,14 +156,14 @@ impl State {
         requires small { m ≤ 2000 }
         requires cells { 2000 ≤ vec_capacity self.old.cells }
         requires trail { 2000 ≤ vec_capacity self.old.trail }
-        ensures cells { cells_of self.new ≡ replicate m Cell.Open }
+        ensures cells { cells_of self.new ≡ replicate m None }
         ensures room { room_of self.new ≡ room_of self.old }
         ensures sound { Sound self.new }
     {
         self.trail.clear();
         self.cells.clear();
         while self.cells.len() < m {
-            self.cells.push_reserved(Cell::Open);
+            self.cells.push_reserved(None);
         }
     }
 
@@ -177,9 +177,9 @@ impl State {
     {
         for code in assumed {
             match look_at(&self.cells, *code) {
-                Cell::Yes => {}
-                Cell::No => return false,
-                Cell::Open => self.assign(*code),
+                Some(true) => {}
+                Some(false) => return false,
+                None => self.assign(*code),
             }
         }
         true
@@ -204,16 +204,14 @@ impl State {
     }
 }
 
-// Keeps what the cells say.
-pub(crate) fn keep(cells: &[Cell], store: &mut Kept)
-    requires { length cells.now ≤ vec_capacity store.old.bits }
-    ensures bits { store.new.bits.items ≡ bits cells.now }
-    ensures present { store.new.present ≡ true }
-    ensures cap { vec_capacity store.new.bits ≡ vec_capacity store.old.bits }
+// Keeps what the cells say, a variable that is open as false.
+pub(crate) fn keep(cells: &[Option<bool>], kept: &mut Kept)
+    requires { length cells.now ≤ kept.old.room }
+    ensures bits { kept.new.bits ≡ Some (bits cells.now) }
+    ensures room { kept.new.room ≡ kept.old.room }
 {
-    store.bits.clear();
-    for x in cells {
-        store.bits.push_reserved(is_yes(*x));
+    kept.start();
+    for cell in cells {
+        kept.push(cell.unwrap_or(false));
     }
-    store.present = true;
 }

@@ -1,21 +1,18 @@
-use Rattle.std.proofs.Common.{[], ◌∷◌, ◌++◌, take, sym, refl, ap, ◌∙◌, arith}
-use Rattle.std.proofs.lemmas.List.{map_more, take_all}
-use Rattle.search.specs.declared.cell.Cell.TheVariants.{Open}
-use Rattle.search.specs.Cells.{bits, is_yes}
+use Rattle.std.proofs.Common.{◌<◌, None, Some, [], ◌∷◌, ◌++◌, length, take, unwrap_or, false, sym, ap, ◌∙◌, arith}
+use Rattle.std.proofs.lemmas.List.{length-map, length-take-le, map_more, take_all}
+use Rattle.solver.proofs.Keeping.{pushed_next}
+use Rattle.search.specs.Cells.{bits}
 use Rattle.search.proofs.state.keep.Goals as goal
 
-pub loop-x-preserved : goal.loop-x-preserved
-loop-x-preserved c =
-    let inv = c.loop-x.invariant in
-    let p = c.push_reserved.ensures in
+pub loop-cell-preserved : goal.loop-cell-preserved
+loop-cell-preserved c =
     let cs = c.args.cells.now in
-    let i = c.loop-x.x-index in (
-      p.items ∙ ap (λ xs. xs ++ c.is_yes.result ∷ []) inv.0 ∙ ap (λ b. bits (take i cs) ++ b ∷ []) c.is_yes.ensures ∙ sym (map_more is_yes cs i Open c.loop-x-test.true),
-      omega arith,
-      p.capacity ∙ inv.2,
+    let i = c.loop-cell.cell-index in
+    let inv = c.loop-cell.invariant in
+    let fits : length (bits (take i cs)) < c.loop-cell.kept.room = omega (arith, length-map (take i cs) (λ x. unwrap_or x false), length-take-le i cs (omega arith)) in (
+      c.push.ensures.bits ∙ pushed_next c.loop-cell.kept (bits (take i cs)) c.unwrap_or.result inv.0 fits ∙ ap (λ b. Some (bits (take i cs) ++ b ∷ [])) c.unwrap_or.ensures ∙ ap Some (sym (map_more (λ x. unwrap_or x false) cs i None c.loop-cell-test.true)),
+      c.push.ensures.room ∙ inv.1,
     )
 
-pub returns : goal.returns
-returns c =
-    let inv = c.loop-x.invariant in
-    record { bits = inv.0 ∙ ap bits (take_all c.loop-x.x-index c.args.cells.now c.loop-x-test.false); present = refl; cap = inv.2 ∙ c.clear.ensures.capacity }
+pub returns-clause-bits : goal.returns-clause-bits
+returns-clause-bits c = c.loop-cell.invariant.0 ∙ ap (λ cs. Some (bits cs)) (take_all c.loop-cell.cell-index c.args.cells.now c.loop-cell-test.false)

@@ -1,10 +1,9 @@
-use Rattle.std.proofs.Common.{◌≡◌, ℕ, true, List, length, sym, ap, ◌∙◌, subst, arith}
+use Rattle.std.proofs.Common.{◌≡◌, ℕ, true, List, length, sym, ap, ◌∙◌, subst, arith, Option, Bool}
 use Rattle.cnf.specs.Words.{well}
-use Rattle.search.specs.declared.cell.Cell.{Cell}
 use Rattle.search.specs.declared.state.State.{State}
 use Rattle.search.specs.Cells.{Extends, open_count}
 use Rattle.search.specs.States.{Grew, cells_of}
-use Rattle.search.proofs.CellFacts.{bits_extend, extend_assigned}
+use Rattle.search.proofs.CellFacts.{bits_extend, extend_assigned, none_first, some_first}
 use Rattle.search.proofs.StateFacts.{grew_trans, grew_long, same_grew, same_refl, same_trans, taken_back, filled_grew, known_at, free_at, dead_both}
 use Rattle.search.proofs.state.State.+attempt_solve.Goals as goal
 
@@ -44,7 +43,7 @@ attempt-returns t c =
       tried = record {
         same = m;
         none = λ a e l k.
-            let P : List Cell → Type 0 = λ x. Extends x a in
+            let P : List (Option Bool) → Type 0 = λ x. Extends x a in
             v.none a (subst P (sym n.cells) (extend_assigned (cells_of s) c.args.code a c.requires.known l e)) k;
       };
     }
@@ -65,7 +64,7 @@ pub solve-returns-in_default : goal.solve-returns-in_default
 solve-returns-in_default t c =
     let p = c.if-not-propagate.ensures in
     let cs = cells_of c.propagate.new.self in
-    let none : open_count cs ≡ 0 = sym (ap open_count c.deref.ensures.value) ∙ c.in_default.ensures in
+    let none : open_count cs ≡ 0 = sym (ap open_count c.deref.ensures.value) ∙ none_first _ c.in_default.ensures in
     record {
       sound = p.sound;
       size = p.grew.size;
@@ -78,7 +77,7 @@ solve-attempt-requires t c =
     let p = c.propagate.ensures in
     let cs = cells_of c.propagate.new.self in
     let e = c.deref.ensures.value in
-    let h = c.in-Some.ensures in (
+    let h = some_first _ _ c.in-Some.ensures in (
       omega (arith, c.decreases, p.grew.fewer),
       (
         p.sound,
@@ -102,7 +101,7 @@ solve-attempt-requires-2 t c =
     let g = grew_trans c.args.self.now _ _ c.propagate.ensures.grew (same_grew _ c.attempt.new.self m) in
     let cs = cells_of c.attempt.new.self in
     let e = c.deref.ensures.value ∙ sym m.cells in
-    let h = c.in-Some.ensures in
+    let h = some_first _ _ c.in-Some.ensures in
     let o = c.opposite.ensures in (
       omega (arith, c.decreases, g.fewer),
       (

@@ -1,9 +1,7 @@
-use Rattle.std.proofs.Common.{◌≡◌, ℕ, Bool, List, length, replicate, sym, ap, ◌∙◌, subst}
+use Rattle.std.proofs.Common.{◌≡◌, ℕ, Bool, List, length, replicate, sym, ap, ◌∙◌, subst, Option, None}
 use Rattle.std.proofs.lemmas.List.{length-replicate}
 use Rattle.cnf.specs.Truth.{inside}
 use Rattle.cnf.specs.Words.{well}
-use Rattle.search.specs.declared.cell.Cell.{Cell}
-use Rattle.search.specs.declared.cell.Cell.TheVariants.{Open}
 use Rattle.search.specs.declared.state.State.{State}
 use Rattle.search.specs.Cells.{Extends}
 use Rattle.search.specs.States.{cells_of}
@@ -11,11 +9,11 @@ use Rattle.search.proofs.CellFacts.{extends_open}
 use Rattle.search.proofs.Assuming.{found_by}
 use Rattle.search.proofs.state.State.find.Goals as goal
 
-size_of : (m : ℕ) (s : State) → cells_of s ≡ replicate m Open → length (cells_of s) ≡ m
-size_of m s e = ap length e ∙ length-replicate m Open
+size_of : (m : ℕ) (s : State) → cells_of s ≡ replicate m None → length (cells_of s) ≡ m
+size_of m s e = ap length e ∙ length-replicate m None
 
-all_extend : (m : ℕ) (s : State) → cells_of s ≡ replicate m Open → (a : ℕ → Bool) → Extends (cells_of s) a
-all_extend m s e a = let P : List Cell → Type 0 = λ x. Extends x a in subst P (sym e) (extends_open m a)
+all_extend : (m : ℕ) (s : State) → cells_of s ≡ replicate m None → (a : ℕ → Bool) → Extends (cells_of s) a
+all_extend m s e a = let P : List (Option Bool) → Type 0 = λ x. Extends x a in subst P (sym e) (extends_open m a)
 
 pub assume-requires : goal.assume-requires
 assume-requires c =

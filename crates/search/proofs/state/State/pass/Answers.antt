@@ -1,7 +1,6 @@
-use Rattle.std.proofs.Common.{◌≡◌, ℕ, ◌+◌, ◌-◌, Bool, true, ◌⊎◌, List, length, get_or, take, drop, ap, subst, inl, inr, arith}
+use Rattle.std.proofs.Common.{◌≡◌, ℕ, ◌+◌, ◌-◌, Bool, true, ◌⊎◌, List, length, get_or, take, drop, ap, subst, inl, inr, arith, Option}
 use Rattle.cnf.specs.Truth.{told, inside, clause}
 use Rattle.cnf.proofs.Reading.{clause_here}
-use Rattle.search.specs.declared.cell.Cell.{Cell}
 use Rattle.search.specs.declared.cell.Status.{Status}
 use Rattle.search.specs.declared.cell.Status.TheVariants.{Satisfied, Conflict, Forced, Unresolved}
 use Rattle.search.specs.Cells.{Weighed, open_count, bits}
@@ -15,16 +14,16 @@ part_is : (ws : List ℕ) (i : ℕ) → take (i + 1 + get_or ws i 0 - (i + 1)) (
 part_is ws i = let e : i + 1 + get_or ws i 0 - (i + 1) ≡ get_or ws i 0 = omega arith in ap (λ n. take n (drop (i + 1) ws)) e
 
 -- What is known of the clause, by the cells and the clause themselves.
-weighed : (cs cs' : List Cell) (ws ws' : List ℕ) (r : Status) → cs ≡ cs' → ws ≡ ws' → Weighed cs ws r → Weighed cs' ws' r
+weighed : (cs cs' : List (Option Bool)) (ws ws' : List ℕ) (r : Status) → cs ≡ cs' → ws ≡ ws' → Weighed cs ws r → Weighed cs' ws' r
 weighed cs cs' ws ws' r e f h =
-    let P : List Cell → Type 0 = λ x. Weighed x ws' r in
+    let P : List (Option Bool) → Type 0 = λ x. Weighed x ws' r in
     let Q : List ℕ → Type 0 = λ x. Weighed cs x r in
     subst P e (subst Q f h)
 
-known_at : (cs cs' : List Cell) (ws ws' : List ℕ) → cs ≡ cs' → ws ≡ ws' → inside (length cs') ws' ≡ true → inside (length cs) ws ≡ true
+known_at : (cs cs' : List (Option Bool)) (ws ws' : List ℕ) → cs ≡ cs' → ws ≡ ws' → inside (length cs') ws' ≡ true → inside (length cs) ws ≡ true
 known_at cs cs' ws ws' e f h = cc
 
-settled : (cs : List Cell) (ws : List ℕ) (r : Status) → (r ≡ Satisfied) ⊎ (r ≡ Unresolved) → Weighed cs ws r → open_count cs ≡ 0 → clause (told (bits cs)) ws ≡ true
+settled : (cs : List (Option Bool)) (ws : List ℕ) (r : Status) → (r ≡ Satisfied) ⊎ (r ≡ Unresolved) → Weighed cs ws r → open_count cs ≡ 0 → clause (told (bits cs)) ws ≡ true
 settled cs ws r (inl e) h z = let k : Weighed cs ws Satisfied = subst (Weighed cs ws) e h in k (told (bits cs)) (bits_extend cs)
 settled cs ws r (inr e) h z = let k : Weighed cs ws Unresolved = subst (Weighed cs ws) e h in absurd (omega arith)
 

@@ -1,11 +1,10 @@
-use Rattle.std.proofs.Common.{◌≡◌, ◌-◌, ◌≤◌, [], replicate, vec_len}
-use Rattle.search.specs.declared.cell.Cell.TheVariants.{Open}
+use Rattle.std.proofs.Common.{◌≡◌, ◌-◌, ◌≤◌, [], replicate, vec_len, None}
 use Rattle.search.specs.States.{cells_of, trail_of, room_of}
 use Rattle.search.proofs.state.State.reset.Given as goal
 
 abbrev pub invariant-loop-self : goal.invariant-loop-self
 invariant-loop-self l =
-    (cells_of l.self ≡ replicate (vec_len l.self.cells) Open) × (vec_len l.self.cells ≤ l.m)
+    (cells_of l.self ≡ replicate (vec_len l.self.cells) None) × (vec_len l.self.cells ≤ l.m)
     × (trail_of l.self ≡ [])
     × (room_of l.self ≡ room_of l.initial.self)
 

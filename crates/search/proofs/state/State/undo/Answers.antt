@@ -1,7 +1,6 @@
-use Rattle.std.proofs.Common.{◌≤◌, length, sym, refl, ap, ◌∙◌, arith}
+use Rattle.std.proofs.Common.{◌≤◌, length, sym, refl, ap, ◌∙◌, arith, None}
 use Rattle.std.proofs.lemmas.List.{drop_all, take_all}
 use Rattle.std.specs.Vec.{with_item}
-use Rattle.search.specs.declared.cell.Cell.TheVariants.{Open}
 use Rattle.search.specs.Cells.{restored}
 use Rattle.search.specs.States.{cells_of, trail_of}
 use Rattle.search.specs.declared.state.State.{State}
@@ -18,7 +17,7 @@ pub loop-self-preserved-in-Some : goal.loop-self-preserved-in-Some
 loop-self-preserved-in-Some c =
     let s = c.loop-self.self in
     let i = c.in-Some.place in
-    let t : State = record { cells = with_item s.cells i Open; trail = c.pop.new.self } in
+    let t : State = record { cells = with_item s.cells i None; trail = c.pop.new.self } in
     let p = c.in-Some.ensures in
     let inv = c.loop-self.invariant in
     let long : c.args.mark ≤ length c.pop.new.self.items = omega (arith, p.len, c.len.ensures, c.loop-self-test.true, c.pop.new.self.ok.0) in (

@@ -6,20 +6,19 @@ use Rattle.cnf.specs.Truth.{lit, named, inside}
 use Rattle.solver.specs.Search.{every, Found, NoneFound}
 use Rattle.search.specs.declared.state.State.{State}
 use Rattle.search.specs.Cells.{Extends, look, assigned, bits}
-use Rattle.search.specs.States.{Sound, Grew, Assumed, cells_of}
+use Rattle.search.specs.States.{Grew, Assumed, cells_of}
 use Rattle.search.specs.Solving.{Solved}
 use Rattle.search.proofs.CellFacts.{named_at, lit_true, lit_false, extend_assigned, look-assigned, bits-length}
 use Rattle.search.proofs.StateFacts.{grew_refl, grew_trans}
 
 pub record Assuming (ws : List ℕ) (s t : State) (i : ℕ) : Type 0 where
   pub grew : Grew s t
-  pub sound : Sound t
   pub known : inside (length (cells_of t)) (drop i ws) ≡ true
   pub onto : (a : ℕ → Bool) → Extends (cells_of s) a → every a ws ≡ true → Extends (cells_of t) a
   pub rest : (a : ℕ → Bool) → Extends (cells_of t) a → every a ws ≡ every a (drop i ws)
 
-pub assuming_start : (ws : List ℕ) (s : State) → Sound s → inside (length (cells_of s)) ws ≡ true → Assuming ws s s 0
-assuming_start ws s h k = record { grew = grew_refl s; sound = h; known = k; onto = λ a e m. e; rest = λ a e. refl }
+pub assuming_start : (ws : List ℕ) (s : State) → inside (length (cells_of s)) ws ≡ true → Assuming ws s s 0
+assuming_start ws s k = record { grew = grew_refl s; known = k; onto = λ a e m. e; rest = λ a e. refl }
 
 module _ (ws : List ℕ) (s t : State) (i : ℕ) (p : Assuming ws s t i) (b : i < length ws) where
   every_more : (a : ℕ → Bool) (x : Bool) → lit a (get_or ws i 0) ≡ x → every a (drop i ws) ≡ (x && every a (drop (i + 1) ws))
@@ -31,7 +30,6 @@ module _ (ws : List ℕ) (s t : State) (i : ℕ) (p : Assuming ws s t i) (b : i 
   pub assuming_yes : Some true ≡ look (cells_of t) (get_or ws i 0) → Assuming ws s t (i + 1)
   assuming_yes l = record {
     grew = p.grew;
-    sound = p.sound;
     known = (named_at (length (cells_of t)) ws i b p.known).1;
     onto = p.onto;
     rest = λ a e. p.rest a e ∙ every_more a true (lit_true (cells_of t) a (get_or ws i 0) assuming_known l e);
@@ -42,13 +40,12 @@ module _ (ws : List ℕ) (s t : State) (i : ℕ) (p : Assuming ws s t i) (b : i 
       let x = p.onto a e m in
       both_ways (every a ws) (p.rest a x ∙ every_more a false (lit_false (cells_of t) a (get_or ws i 0) assuming_known l x)) m
 
-  pub assuming_open : (u : State) → cells_of u ≡ assigned (cells_of t) (get_or ws i 0) → Grew t u → Sound u → Assuming ws s u (i + 1)
-  assuming_open u cs g h =
+  pub assuming_open : (u : State) → cells_of u ≡ assigned (cells_of t) (get_or ws i 0) → Grew t u → Assuming ws s u (i + 1)
+  assuming_open u cs g =
       let w = get_or ws i 0 in
       let k : named (length (cells_of u)) w ≡ true = ap (λ n. named n w) g.size ∙ assuming_known in
       record {
         grew = grew_trans s t u p.grew g;
-        sound = h;
         known = ap (λ n. inside n (drop (i + 1) ws)) g.size ∙ (named_at (length (cells_of t)) ws i b p.known).1;
         onto = λ a e m.
             let x = p.onto a e m in

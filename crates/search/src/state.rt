@@ -1,21 +1,25 @@
 // The search: a partial assignment, and the trail of the places that were set.
-ghost use Rattle.std.specs.Prelude.{◌≡◌, ◌+◌, ◌≤◌, true, length, None, Some, take, drop, replicate, vec_len, vec_capacity, MatchBool};
+ghost use Rattle.std.specs.Prelude.{◌≡◌, ◌+◌, ◌<◌, ◌≤◌, true, length, None, Some, take, drop, replicate, vec_len, vec_capacity, All, MatchBool};
 ghost use Rattle.cnf.specs.Truth.{named, inside};
 ghost use Rattle.cnf.specs.Words.{well};
 ghost use Rattle.solver.specs.Search.{Found, NoneFound};
 ghost use Rattle.search.specs.Cells.{bits, look, assigned, restored, open_count};
-ghost use Rattle.search.specs.States.{Sound, Grew, Passed, Propagated, Assumed, cells_of, trail_of, room_of};
-ghost use Rattle.search.specs.Solving.{Solved, Tried};
 
 use crate::cell::{Status, first_open, look_at, made_by, weigh};
 use cnf::literal::opposite;
 use solver::kept::Kept;
 
-// The cell of the variable v is at the place v - 1.
+// The cell of the variable v is at the place v - 1. The spaces are taken for the largest search: the trail holds places of
+// cells, and has room for every variable that is open.
 #[derive(Drop)]
 pub(crate) struct State {
     pub(crate) cells: Vec<Option<bool>>,
     pub(crate) trail: Vec<u16>,
+    ghost cells_room: { 2000 ≤ vec_capacity cells },
+    ghost trail_room: { 2000 ≤ vec_capacity trail },
+    ghost small: { length cells.items ≤ 2000 },
+    ghost spare: { vec_len trail + open_count cells.items ≤ 2000 },
+    ghost places: { All (λ i. i < length cells.items) trail.items },
 }
 
 // How a pass over the list ended.
@@ -27,15 +31,16 @@ pub(crate) enum Pass {
 }
 
 impl State {
+    ghost use Rattle.search.specs.States.{Grew, Passed, Propagated, Assumed, cells_of, trail_of};
+    ghost use Rattle.search.specs.Solving.{Solved, Tried};
+
     // Makes an open literal true.
     pub(crate) fn assign(&mut self, code: u16)
-        requires sound { Sound self.old }
         requires known { named (length (cells_of self.old)) code ≡ true }
         requires free { look (cells_of self.old) code ≡ None }
         ensures cells { cells_of self.new ≡ assigned (cells_of self.old) code }
         ensures count { open_count (cells_of self.new) + 1 ≡ open_count (cells_of self.old) }
         ensures grew { Grew self.old self.new }
-        ensures sound { Sound self.new }
     {
         let place = code / 2 - 1;
         let cell = made_by(code);
@@ -45,12 +50,9 @@ impl State {
 
     // Opens what was set since the trail had `mark` places.
     pub(crate) fn undo(&mut self, mark: usize)
-        requires sound { Sound self.old }
         requires within { mark ≤ vec_len self.old.trail }
         ensures cells { cells_of self.new ≡ restored (cells_of self.old) (drop mark (trail_of self.old)) }
         ensures trail { trail_of self.new ≡ take mark (trail_of self.old) }
-        ensures room { room_of self.new ≡ room_of self.old }
-        ensures sound { Sound self.new }
     {
         while self.trail.len() > mark {
             if let Some(place) = self.trail.pop() {
@@ -61,10 +63,8 @@ impl State {
 
     // Goes once over the list, and makes true what a clause forces.
     pub(crate) fn pass(&mut self, list: &[u16]) -> Pass
-        requires sound { Sound self.old }
         requires formed { well (length (cells_of self.old)) list.now ≡ true }
         ensures grew { Grew self.old self.new }
-        ensures sound { Sound self.new }
         ensures passed { Passed list.now self.old self.new result }
     {
         let mut moved = false;
@@ -86,10 +86,8 @@ impl State {
 
     // Makes true what clauses force, until none forces more: no where a clause fails.
     pub(crate) fn propagate(&mut self, list: &[u16]) -> bool
-        requires sound { Sound self.old }
         requires formed { well (length (cells_of self.old)) list.now ≡ true }
         ensures grew { Grew self.old self.new }
-        ensures sound { Sound self.new }
         ensures done { Propagated list.now self.old self.new result }
     {
         loop {
@@ -104,11 +102,8 @@ impl State {
     // Looks for a model that extends the cells: they are one then, and else as they were.
     #[cycle(attempt_solve)]
     pub(crate) fn solve(&mut self, list: &[u16]) -> bool
-        requires sound { Sound self.old }
         requires formed { well (length (cells_of self.old)) list.now ≡ true }
-        ensures sound { Sound self.new }
         ensures size { length (cells_of self.new) ≡ length (cells_of self.old) }
-        ensures room { room_of self.new ≡ room_of self.old }
         ensures solved { Solved list.now self.old self.new result }
     {
         let mark = self.trail.len();
@@ -133,13 +128,10 @@ impl State {
     // Looks for a model that extends the cells and makes an open literal true: the cells are one then, and else as they were.
     #[cycle(attempt_solve)]
     pub(crate) fn attempt(&mut self, list: &[u16], code: u16) -> bool
-        requires sound { Sound self.old }
         requires formed { well (length (cells_of self.old)) list.now ≡ true }
         requires known { named (length (cells_of self.old)) code ≡ true }
         requires free { look (cells_of self.old) code ≡ None }
-        ensures sound { Sound self.new }
         ensures size { length (cells_of self.new) ≡ length (cells_of self.old) }
-        ensures room { room_of self.new ≡ room_of self.old }
         ensures tried { Tried code list.now self.old self.new result }
     {
         let mark = self.trail.len();
@@ -154,11 +146,7 @@ impl State {
     // Opens m variables, with none set.
     pub(crate) fn reset(&mut self, m: usize)
         requires small { m ≤ 2000 }
-        requires cells { 2000 ≤ vec_capacity self.old.cells }
-        requires trail { 2000 ≤ vec_capacity self.old.trail }
         ensures cells { cells_of self.new ≡ replicate m None }
-        ensures room { room_of self.new ≡ room_of self.old }
-        ensures sound { Sound self.new }
     {
         self.trail.clear();
         self.cells.clear();
@@ -169,10 +157,8 @@ impl State {
 
     // Makes the assumed literals true: no where one of them is false already.
     pub(crate) fn assume(&mut self, assumed: &[u16]) -> bool
-        requires sound { Sound self.old }
         requires known { inside (length (cells_of self.old)) assumed.now ≡ true }
         ensures grew { Grew self.old self.new }
-        ensures sound { Sound self.new }
         ensures assumed { Assumed assumed.now self.old self.new result }
     {
         for code in assumed {
@@ -188,11 +174,8 @@ impl State {
     // Looks for a model of a list over m variables in which the assumed literals are true: the cells are one then.
     pub(crate) fn find(&mut self, m: usize, list: &[u16], assumed: &[u16]) -> bool
         requires small { m ≤ 2000 }
-        requires cells { 2000 ≤ vec_capacity self.old.cells }
-        requires trail { 2000 ≤ vec_capacity self.old.trail }
         requires formed { well m list.now ≡ true }
         requires known { inside m assumed.now ≡ true }
-        ensures room { room_of self.new ≡ room_of self.old }
         ensures size { length (cells_of self.new) ≡ m }
         ensures found { MatchBool result (Found m list.now assumed.now (bits (cells_of self.new))) (NoneFound list.now assumed.now) }
     {

@@ -13,19 +13,18 @@ formed ws s t g h = ap (λ k. well k ws) g.size ∙ h
 pub attempt-solve-requires : goal.attempt-solve-requires
 attempt-solve-requires t c =
     let n = c.assign.ensures in
-    (omega (arith, c.decreases, n.count), (n.sound, formed c.args.list.now c.args.self.now _ n.grew c.requires.formed))
+    (omega (arith, c.decreases, n.count), formed c.args.list.now c.args.self.now _ n.grew c.requires.formed)
 
 pub attempt-returns-then-solve : goal.attempt-returns-then-solve
 attempt-returns-then-solve t c =
     let g = c.assign.ensures.grew in
     let v = c.if-solve.ensures in
-    record { sound = v.sound; size = v.size ∙ g.size; room = v.room ∙ g.room; tried = filled_grew _ _ _ _ g v.solved }
+    record { size = v.size ∙ g.size; tried = filled_grew _ _ _ _ g v.solved }
 
 pub attempt-undo-requires : goal.attempt-undo-requires
 attempt-undo-requires t c =
     let v = c.if-solve.ensures in
     record {
-      sound = v.sound;
       within = omega (arith, grew_long _ _ (grew_trans _ _ _ c.assign.ensures.grew (same_grew _ _ v.solved.same)), c.len-mark.ensures);
     }
 
@@ -35,11 +34,9 @@ attempt-returns t c =
     let n = c.assign.ensures in
     let v = c.if-solve.ensures.solved in
     let u = c.undo.ensures in
-    let m = taken_back s _ _ c.undo.new.self _ c.len-mark.ensures n.grew v.same u.cells u.trail u.room in
+    let m = taken_back s _ _ c.undo.new.self _ c.len-mark.ensures n.grew v.same u.cells u.trail in
     record {
-      sound = u.sound;
       size = ap length m.cells;
-      room = m.room;
       tried = record {
         same = m;
         none = λ a e l k.
@@ -51,14 +48,14 @@ attempt-returns t c =
 pub solve-undo-requires : goal.solve-undo-requires
 solve-undo-requires t c =
     let p = c.propagate.ensures in
-    record { sound = p.sound; within = omega (arith, grew_long _ _ p.grew, c.len-mark.ensures) }
+    record { within = omega (arith, grew_long _ _ p.grew, c.len-mark.ensures) }
 
 pub solve-returns-then-not-propagate : goal.solve-returns-then-not-propagate
 solve-returns-then-not-propagate t c =
     let p = c.if-not-propagate.ensures in
     let u = c.undo.ensures in
-    let m = taken_back c.args.self.now _ _ c.undo.new.self _ c.len-mark.ensures p.grew (same_refl _) u.cells u.trail u.room in
-    record { sound = u.sound; size = ap length m.cells; room = m.room; solved = record { same = m; none = p.done } }
+    let m = taken_back c.args.self.now _ _ c.undo.new.self _ c.len-mark.ensures p.grew (same_refl _) u.cells u.trail in
+    record { size = ap length m.cells; solved = record { same = m; none = p.done } }
 
 pub solve-returns-in_default : goal.solve-returns-in_default
 solve-returns-in_default t c =
@@ -66,9 +63,7 @@ solve-returns-in_default t c =
     let cs = cells_of c.propagate.new.self in
     let none : open_count cs ≡ 0 = sym (ap open_count c.deref.ensures.value) ∙ none_first _ c.in_default.ensures in
     record {
-      sound = p.sound;
       size = p.grew.size;
-      room = p.grew.room;
       solved = record { every_set = none; as_before = p.grew.finer _ (bits_extend cs); holds = p.done.1 none };
     }
 
@@ -80,11 +75,8 @@ solve-attempt-requires t c =
     let h = some_first _ _ c.in-Some.ensures in (
       omega (arith, c.decreases, p.grew.fewer),
       (
-        p.sound,
-        (
-          formed c.args.list.now c.args.self.now _ p.grew c.requires.formed,
-          (known_at _ cs c.in-Some.place _ e h (omega arith), free_at _ cs c.in-Some.place _ e h (omega arith)),
-        ),
+        formed c.args.list.now c.args.self.now _ p.grew c.requires.formed,
+        (known_at _ cs c.in-Some.place _ e h (omega arith), free_at _ cs c.in-Some.place _ e h (omega arith)),
       ),
     )
 
@@ -92,7 +84,7 @@ pub solve-returns-then-attempt : goal.solve-returns-then-attempt
 solve-returns-then-attempt t c =
     let g = c.propagate.ensures.grew in
     let v = c.if-attempt.ensures in
-    record { sound = v.sound; size = v.size ∙ g.size; room = v.room ∙ g.room; solved = filled_grew _ _ _ _ g v.tried }
+    record { size = v.size ∙ g.size; solved = filled_grew _ _ _ _ g v.tried }
 
 pub solve-attempt-requires-2 : goal.solve-attempt-requires-2
 solve-attempt-requires-2 t c =
@@ -105,11 +97,8 @@ solve-attempt-requires-2 t c =
     let o = c.opposite.ensures in (
       omega (arith, c.decreases, g.fewer),
       (
-        v.sound,
-        (
-          formed c.args.list.now c.args.self.now _ g c.requires.formed,
-          (known_at _ cs c.in-Some.place _ e h (omega arith), free_at _ cs c.in-Some.place _ e h (omega arith)),
-        ),
+        formed c.args.list.now c.args.self.now _ g c.requires.formed,
+        (known_at _ cs c.in-Some.place _ e h (omega arith), free_at _ cs c.in-Some.place _ e h (omega arith)),
       ),
     )
 
@@ -118,13 +107,13 @@ solve-returns-then-attempt-2 t c =
     let m = c.if-attempt.ensures.tried.same in
     let g = grew_trans c.args.self.now _ _ c.propagate.ensures.grew (same_grew _ c.attempt.new.self m) in
     let v = c.if-attempt-2.ensures in
-    record { sound = v.sound; size = v.size ∙ g.size; room = v.room ∙ g.room; solved = filled_grew _ _ _ _ g v.tried }
+    record { size = v.size ∙ g.size; solved = filled_grew _ _ _ _ g v.tried }
 
 pub solve-undo-requires-2 : goal.solve-undo-requires-2
 solve-undo-requires-2 t c =
     let v = c.if-attempt-2.ensures in
     let m = same_trans _ _ _ c.if-attempt.ensures.tried.same v.tried.same in
-    record { sound = v.sound; within = omega (arith, grew_long _ _ (grew_trans _ _ _ c.propagate.ensures.grew (same_grew _ _ m)), c.len-mark.ensures) }
+    record { within = omega (arith, grew_long _ _ (grew_trans _ _ _ c.propagate.ensures.grew (same_grew _ _ m)), c.len-mark.ensures) }
 
 pub solve-returns : goal.solve-returns
 solve-returns t c =
@@ -133,10 +122,8 @@ solve-returns t c =
     let y = c.if-attempt-2.ensures.tried in
     let u = c.undo-2.ensures in
     let m = same_trans _ _ _ x.same y.same in
-    let e = taken_back c.args.self.now _ _ c.undo-2.new.self _ c.len-mark.ensures p.grew m u.cells u.trail u.room in
+    let e = taken_back c.args.self.now _ _ c.undo-2.new.self _ c.len-mark.ensures p.grew m u.cells u.trail in
     record {
-      sound = u.sound;
       size = ap length e.cells;
-      room = e.room;
       solved = record { same = e; none = λ a z k. dead_both c.args.list.now _ _ _ _ _ (omega (arith, c.opposite.ensures)) x y a (p.done.0 a z k) k };
     }

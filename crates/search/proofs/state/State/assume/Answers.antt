@@ -17,7 +17,6 @@ returns-in-Some-false c =
     let w = get_or c.args.assumed.now c.loop-code.code-index 0 in
     record {
       grew = inv.grew;
-      sound = inv.sound;
       assumed = assuming_no c.args.assumed.now c.args.self.now c.loop-code.self c.loop-code.code-index inv c.loop-code-test.true (ap Some (sym c.in-Some-false.field-0-test) ∙ c.in-Some-false.ensures ∙ ap (λ x. look x w) c.deref.ensures.value);
     }
 
@@ -25,7 +24,6 @@ pub assign-requires : goal.assign-requires
 assign-requires c =
     let w = get_or c.args.assumed.now c.loop-code.code-index 0 in
     record {
-      sound = c.loop-code.invariant.sound;
       known = assuming_known c.args.assumed.now c.args.self.now c.loop-code.self c.loop-code.code-index c.loop-code.invariant c.loop-code-test.true;
       free = sym (c.in-None.ensures ∙ ap (λ x. look x w) c.deref.ensures.value);
     }
@@ -40,10 +38,10 @@ loop-code-preserved c =
     let P : State → Type 0 = λ x. Assuming ws s x (i + 1) in
     elim c.match-look_at.branch [
       | in-Some-true y ↦ subst P (sym y.self-is) (assuming_yes ws s t i c.loop-code.invariant c.loop-code-test.true (ap Some (sym y.in-Some-true.field-0-test) ∙ y.in-Some-true.ensures ∙ ap (λ x. look x w) c.deref.ensures.value))
-      | in-None y ↦ let n = y.assign.ensures in subst P (sym y.self-is) (assuming_open ws s t i c.loop-code.invariant c.loop-code-test.true y.assign.new.self n.cells n.grew n.sound)
+      | in-None y ↦ let n = y.assign.ensures in subst P (sym y.self-is) (assuming_open ws s t i c.loop-code.invariant c.loop-code-test.true y.assign.new.self n.cells n.grew)
     ]
 
 pub returns : goal.returns
 returns c =
     let inv = c.loop-code.invariant in
-    record { grew = inv.grew; sound = inv.sound; assumed = assuming_end c.args.assumed.now _ _ _ c.loop-code-test.false inv }
+    record { grew = inv.grew; assumed = assuming_end c.args.assumed.now _ _ _ c.loop-code-test.false inv }

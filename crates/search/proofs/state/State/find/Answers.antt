@@ -18,14 +18,13 @@ all_extend m s e a = let P : List (Option Bool) → Type 0 = λ x. Extends x a i
 pub assume-requires : goal.assume-requires
 assume-requires c =
     let r = c.reset.ensures in
-    record { sound = r.sound; known = ap (λ k. inside k c.args.assumed.now) (size_of c.args.m c.reset.new.self r.cells) ∙ c.requires.known }
+    record { known = ap (λ k. inside k c.args.assumed.now) (size_of c.args.m c.reset.new.self r.cells) ∙ c.requires.known }
 
 pub returns-then-not-assume : goal.returns-then-not-assume
 returns-then-not-assume c =
     let r = c.reset.ensures in
     let n = c.if-not-assume.ensures in
     record {
-      room = n.grew.room ∙ r.room;
       size = n.grew.size ∙ size_of c.args.m c.reset.new.self r.cells;
       found = λ a k e. n.assumed a (all_extend c.args.m c.reset.new.self r.cells a) e;
     }
@@ -34,7 +33,7 @@ pub solve-requires : goal.solve-requires
 solve-requires c =
     let r = c.reset.ensures in
     let n = c.if-not-assume.ensures in
-    record { sound = n.sound; formed = ap (λ k. well k c.args.list.now) (n.grew.size ∙ size_of c.args.m c.reset.new.self r.cells) ∙ c.requires.formed }
+    record { formed = ap (λ k. well k c.args.list.now) (n.grew.size ∙ size_of c.args.m c.reset.new.self r.cells) ∙ c.requires.formed }
 
 pub returns : goal.returns
 returns c =
@@ -43,7 +42,6 @@ returns c =
     let v = c.solve.ensures in
     let size = v.size ∙ n.grew.size ∙ size_of c.args.m c.reset.new.self r.cells in
     record {
-      room = v.room ∙ n.grew.room ∙ r.room;
       size = size;
       found = found_by c.args.m c.args.list.now c.args.assumed.now c.reset.new.self c.assume.new.self c.solve.new.self c.solve.result (all_extend c.args.m c.reset.new.self r.cells) n.assumed size v.solved;
     }

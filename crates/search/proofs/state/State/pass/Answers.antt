@@ -44,7 +44,6 @@ returns-in-Conflict c =
     let inv = c.loop-i.invariant in
     record {
       grew = inv.grew;
-      sound = inv.sound;
       passed = passing_clash ws _ _ i _ inv c.loop-i-test.true (weighed _ _ _ _ Conflict c.deref.ensures.value (part_is ws i) c.in-Conflict.ensures);
     }
 
@@ -54,7 +53,7 @@ loop-i-preserved-in-Forced c =
     let i = c.loop-i.i in
     let k = weighed _ _ _ _ (Forced c.in-Forced.code) c.deref.ensures.value (part_is ws i) c.in-Forced.ensures in
     let n = c.assign.ensures in
-    passing_force ws _ _ i _ c.loop-i.invariant c.loop-i-test.true _ c.in-Forced.code k.0 k.1 k.2 n.grew n.sound n.cells
+    passing_force ws _ _ i _ c.loop-i.invariant c.loop-i-test.true _ c.in-Forced.code k.0 k.1 k.2 n.grew n.cells
 
 pub loop-i-preserved : goal.loop-i-preserved
 loop-i-preserved c =
@@ -68,4 +67,4 @@ returns-else-moved c =
     let ws = c.args.list.now in
     let P : Bool → Type 0 = Passing ws c.args.self.now c.loop-i.self c.loop-i.i in
     let inv = subst P c.if-moved.false c.loop-i.invariant in
-    record { grew = inv.grew; sound = inv.sound; passed = (inv.keeps, passing_quiet ws _ _ _ c.loop-i-test.false inv) }
+    record { grew = inv.grew; passed = (inv.keeps, passing_quiet ws _ _ _ c.loop-i-test.false inv) }

@@ -150,7 +150,7 @@ impl State {
     {
         self.trail.clear();
         self.cells.clear();
-        while self.cells.len() < m {
+        for _ in 0..m {
             self.cells.push_reserved(None);
         }
     }

@@ -1,16 +1,16 @@
 -- The state of a search. Assumes nothing.
 use Rattle.std.proofs.Common.{◌≡◌, ℕ, ◌+◌, ◌/◌, ◌<◌, ◌≤◌, true, false, not, List, [], ◌∷◌, ◌++◌, length, get_or, take, drop, set, vec_len, sym, refl, ap, ◌∙◌, subst, ⊎_elim, append_assoc, arith, Option, None, Some, Bool}
-use Rattle.std.proofs.lemmas.List.{length-set, length-append, length_push, get_or_push, get_or_append_left, drop-append-le, take-append-le, drop_at, take_at, append-nil}
+use Rattle.std.proofs.lemmas.List.{length-set, length-append, drop-append-le, take-append-le, drop_at, take_at, append-nil}
 use Rattle.std.specs.List.{All}
 use Rattle.std.proofs.lemmas.List.Elements.{All-push, All-pop}
-use Rattle.std.proofs.lemmas.Bool.{cases_lt, cases_Bool}
+use Rattle.std.proofs.lemmas.Bool.{cases_Bool}
 use Rattle.cnf.specs.Truth.{opp, lit, named}
 use Rattle.cnf.proofs.Tables.{lit-opp}
 use Rattle.search.specs.declared.state.State.{State}
-use Rattle.search.specs.Cells.{Extends, look, place_of, assigned, restored, open_count}
+use Rattle.search.specs.Cells.{Extends, look, place_of, restored, open_count}
 use Rattle.search.specs.States.{Grew, Same, Dead, cells_of, trail_of}
 use Rattle.search.specs.Solving.{Filled, NotWith}
-use Rattle.search.proofs.CellFacts.{named_from, place_within, open_look, count_assigned, finer_assigned, length-assigned, restored-assigned, restored_push, restored-append, count_opened}
+use Rattle.search.proofs.CellFacts.{named_from, open_look, restored_push, restored-append}
 
 -- the trail holds places of cells
 pub places_push : (c d : List (Option Bool)) (is js : List ℕ) (i : ℕ) → length d ≡ length c → js ≡ is ++ i ∷ [] → i < length c → All (λ k. k < length c) is → All (λ k. k < length d) js

@@ -1,5 +1,5 @@
 -- The state of a search, and what its steps do. Assumes nothing.
-use Rattle.std.specs.Prelude.{◌≡◌, ℕ, ◌+◌, ◌<◌, ◌≤◌, Bool, true, false, List, Option, ◌++◌, length, vec_items, vec_len, vec_capacity, ◌≢◌, slice_index}
+use Rattle.std.specs.Prelude.{◌≡◌, ℕ, ◌<◌, ◌≤◌, Bool, true, false, List, Option, ◌++◌, length, vec_items, ◌≢◌}
 use Rattle.cnf.specs.Truth.{told, clauses}
 use Rattle.cnf.specs.Words.{read}
 use Rattle.solver.specs.Search.{every}

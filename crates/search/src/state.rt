@@ -85,6 +85,7 @@ impl State {
     }
 
     // Makes true what clauses force, until none forces more: no where a clause fails.
+    #[tactic(auto, using(crate::proofs::StateFacts::grew_trans))]
     pub(crate) fn propagate(&mut self, list: &[u16]) -> bool
         requires formed { well (length (cells_of self.old)) list.now ≡ true }
         ensures grew { Grew self.old self.new }

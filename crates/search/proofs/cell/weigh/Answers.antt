@@ -1,12 +1,8 @@
 use Rattle.std.proofs.Common.{ℕ, ◌+◌, length, get_or, Option, Some, sym, ap, ◌∙◌, subst}
 use Rattle.search.proofs.CellFacts.{count_open, look_open, place_within}
-use Rattle.search.proofs.Weighing.{Scanned, scanned_named, scanned_no, scanned_open, scanned_yes, scanned_none, scanned_one}
+use Rattle.search.proofs.Weighing.{Scanned, scanned_named, scanned_no, scanned_open, scanned_yes}
 use Rattle.search.proofs.cell.weigh.Goals as goal
 use Rattle.search.proofs.cell.weigh.Goals.{in-Some-false, in-None+else-is_some}
-
-pub look_at-requires : goal.look_at-requires
-look_at-requires c =
-    scanned_named c.args.cells.now c.args.body.now c.loop-code.code-index c.loop-code-test.true c.loop-code.last c.loop-code.invariant
 
 pub returns-in-Some-true : goal.returns-in-Some-true
 returns-in-Some-true c =
@@ -29,20 +25,3 @@ loop-code-preserved c =
       | in-Some-false w ↦ subst P (sym w.last-is) (scanned_no cs ws i c.loop-code-test.true c.loop-code.last (ap Some (sym w.in-Some-false.field-0-test) ∙ w.in-Some-false.ensures) c.loop-code.invariant)
       | in-None+else-is_some w ↦ subst P (sym w.last-is) (scanned_open cs ws i c.loop-code-test.true c.loop-code.last w.in-None.ensures (sym w.if-is_some.ensures) c.loop-code.invariant)
     ]
-
-pub returns-in-None-last : goal.returns-in-None-last
-returns-in-None-last c =
-    let cs = c.args.cells.now in
-    let ws = c.args.body.now in
-    let i = c.loop-code.code-index in
-    let P : Option ℕ → Type 0 = Scanned cs ws i in
-    λ a e. let f = scanned_none cs ws i c.loop-code-test.false (subst P c.in-None-last.is c.loop-code.invariant) a e in simp f
-
-pub returns-in-Some : goal.returns-in-Some
-returns-in-Some c =
-    let cs = c.args.cells.now in
-    let ws = c.args.body.now in
-    let i = c.loop-code.code-index in
-    let P : Option ℕ → Type 0 = Scanned cs ws i in
-    let s = subst P c.in-Some.is c.loop-code.invariant in
-    (s.1, s.2, scanned_one cs ws i c.in-Some.code c.loop-code-test.false s)

@@ -1,4 +1,4 @@
-use Rattle.std.proofs.Common.{◌≡◌, Bool, List, [], ◌∷◌, ℕ, ◌+◌, ◌≤◌, Option, length, set, sym, ap, ◌∙◌, subst, arith}
+use Rattle.std.proofs.Common.{◌≡◌, Bool, List, [], ◌∷◌, ℕ, ◌+◌, ◌≤◌, Option, length, set, ap, ◌∙◌, subst, arith}
 use Rattle.std.proofs.lemmas.List.{length-set}
 use Rattle.search.specs.Cells.{Extends, assigned, place_of, open_count, restored}
 use Rattle.search.specs.States.{cells_of}
@@ -22,7 +22,7 @@ invariant_of-self-clause-spare c =
     let s = c.args.self.now in
     let w = c.args.code in
     let cs : open_count (set (cells_of s) (place_of w) c.made_by-cell.result) ≡ open_count (assigned (cells_of s) w) =
-        ap (λ x. open_count (set (cells_of s) (place_of w) x)) c.made_by-cell.ensures in
+    ap (λ x. open_count (set (cells_of s) (place_of w) x)) c.made_by-cell.ensures in
     omega (arith, count_assigned (cells_of s) w c.requires.known c.requires.free)
 
 pub invariant_of-self-clause-places : goal.invariant_of-self-clause-places

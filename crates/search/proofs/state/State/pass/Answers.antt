@@ -37,15 +37,11 @@ weigh-requires c =
     let at = clause_here _ c.args.list.now c.loop-i.i c.loop-i-test.true c.loop-i.invariant.formed in
     known_at _ _ _ _ c.deref.ensures.value (part_is c.args.list.now c.loop-i.i) at.known
 
-pub returns-in-Conflict : goal.returns-in-Conflict
-returns-in-Conflict c =
+pub returns-in-Conflict-clause-passed : goal.returns-in-Conflict-clause-passed
+returns-in-Conflict-clause-passed c =
     let ws = c.args.list.now in
     let i = c.loop-i.i in
-    let inv = c.loop-i.invariant in
-    record {
-      grew = inv.grew;
-      passed = passing_clash ws _ _ i _ inv c.loop-i-test.true (weighed _ _ _ _ Conflict c.deref.ensures.value (part_is ws i) c.in-Conflict.ensures);
-    }
+    passing_clash ws _ _ i _ c.loop-i.invariant c.loop-i-test.true (weighed _ _ _ _ Conflict c.deref.ensures.value (part_is ws i) c.in-Conflict.ensures)
 
 pub loop-i-preserved-in-Forced : goal.loop-i-preserved-in-Forced
 loop-i-preserved-in-Forced c =
@@ -62,9 +58,9 @@ loop-i-preserved c =
     passing_hold ws _ _ i _ c.loop-i.invariant c.loop-i-test.true
     (settled (cells_of c.loop-i.self) (clause_at ws i) c.weigh.result c.in-Satisfied.is (weighed _ _ _ _ c.weigh.result c.deref.ensures.value (part_is ws i) c.weigh.ensures))
 
-pub returns-else-moved : goal.returns-else-moved
-returns-else-moved c =
+pub returns-else-moved-clause-passed : goal.returns-else-moved-clause-passed
+returns-else-moved-clause-passed c =
     let ws = c.args.list.now in
     let P : Bool → Type 0 = Passing ws c.args.self.now c.loop-i.self c.loop-i.i in
     let inv = subst P c.if-moved.false c.loop-i.invariant in
-    record { grew = inv.grew; passed = (inv.keeps, passing_quiet ws _ _ _ c.loop-i-test.false inv) }
+    (inv.keeps, passing_quiet ws _ _ _ c.loop-i-test.false inv)

@@ -1,9 +1,8 @@
 -- Partial assignments. Assumes nothing.
-use Rattle.std.proofs.Common.{◌≡◌, ℕ, zero, suc, ◌+◌, ◌*◌, ◌/◌, ◌%◌, ◌<◌, ◌≤◌, Bool, true, false, cond, not, eqb, leb, List, [], ◌∷◌, ◌++◌, Option, Some, None, length, get_or, drop, set, replicate, sym, refl, ap, ◌∙◌, subst, ⊎_elim, arith}
+use Rattle.std.proofs.Common.{◌≡◌, ℕ, zero, suc, ◌+◌, ◌*◌, ◌/◌, ◌%◌, ◌<◌, ◌≤◌, Bool, true, false, cond, not, eqb, leb, List, [], ◌∷◌, ◌++◌, Option, Some, None, length, get_or, drop, set, sym, refl, ap, ◌∙◌, subst, ⊎_elim, arith}
 use Rattle.std.proofs.lemmas.List.{set-set, set-get_or, get_or-set_same, get_or-set_other, length-set, at_drop_more}
 use Rattle.std.specs.List.{position, position_or_len}
 use Rattle.std.proofs.lemmas.List.Sums.{sum_by-cons, sum_by-set, fails_before_first}
-use Rattle.std.proofs.lemmas.List.Folds.{sum_by-replicate}
 use Rattle.std.proofs.lemmas.List.Quantifiers.{position-Some}
 use Rattle.std.proofs.lemmas.Bool.Decides.{nat_tests}
 use Rattle.std.specs.Option.{is_none}
@@ -76,9 +75,6 @@ count_set c i x h = sum_by-set (λ y. cond (is_none y) 1 0) c i x None h
 pub count_open : (c : List (Option Bool)) (i : ℕ) → i < length c → get_or c i None ≡ None → 0 < open_count c
 count_open c i h e = omega (arith, count_set c i (Some true) h, ap {B = ℕ} (λ y. cond (is_none y) 1 0) e)
 
-pub count_opened : (c : List (Option Bool)) (i : ℕ) → i < length c → open_count (set c i None) ≤ open_count c + 1
-count_opened c i h = omega (arith, count_set c i None h)
-
 pub count_assigned : (c : List (Option Bool)) (w : ℕ) → named (length c) w ≡ true → look c w ≡ None → open_count (assigned c w) + 1 ≡ open_count c
 unfolding assigned
 count_assigned c w n o =
@@ -118,10 +114,6 @@ bits_fit (x ∷ c) (suc i) = bits_fit c i
 
 pub bits_extend : (c : List (Option Bool)) → Extends c (told (bits c))
 bits_extend c = record { fits = bits_fit c }
-
-pub bits-length : (c : List (Option Bool)) → length (bits c) ≡ length c
-bits-length [] = refl
-bits-length (x ∷ c) = ap suc (bits-length c)
 
 -- an open cell is set: what extends the new cells extends the old
 finer_set : (c : List (Option Bool)) (i : ℕ) (x : Option Bool) (a : ℕ → Bool) → get_or c i None ≡ None → Extends (set c i x) a → Extends c a
@@ -191,15 +183,3 @@ pub restored-assigned : (c : List (Option Bool)) (w : ℕ) → look c w ≡ None
 unfolding assigned
 restored-assigned c w o =
     set-set c (place_of w) (made w) None ∙ ap (set c (place_of w)) (sym (look_open c w o)) ∙ set-get_or c (place_of w) None
-
--- all open
-pub count_replicate : (m : ℕ) → open_count (replicate m None) ≡ m
-count_replicate m = omega (arith, sum_by-replicate {X = Option Bool} (λ y. cond (is_none y) 1 0) m None)
-
-replicate_open : (m i : ℕ) → get_or {A = Option Bool} (replicate m None) i None ≡ None
-replicate_open zero i = refl
-replicate_open (suc m) zero = refl
-replicate_open (suc m) (suc i) = replicate_open m i
-
-pub extends_open : (m : ℕ) (a : ℕ → Bool) → Extends (replicate m None) a
-extends_open m a = record { fits = λ i. let P : Option Bool → Type 0 = λ x. Fits x (a (suc i)) in subst P (sym (replicate_open m i)) tt }

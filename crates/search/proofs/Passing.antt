@@ -1,5 +1,5 @@
 -- The loop over the clauses of a list. Assumes nothing.
-use Rattle.std.proofs.Common.{◌≡◌, ℕ, ◌+◌, ◌<◌, ◌≤◌, Bool, true, false, ◌&&◌, List, length, get_or, take, drop, sym, refl, ap, ◌∙◌, subst, arith, Option, None}
+use Rattle.std.proofs.Common.{◌≡◌, ℕ, ◌+◌, ◌<◌, ◌≤◌, Bool, true, false, ◌&&◌, List, length, get_or, take, drop, sym, ap, ◌∙◌, subst, arith, Option, None}
 use Rattle.std.proofs.lemmas.List.{at_drop_all}
 use Rattle.std.proofs.lemmas.Bool.{and_parts, both_ways}
 use Rattle.cnf.specs.Truth.{told, lit, clause, clauses, named}
@@ -9,7 +9,7 @@ use Rattle.search.specs.declared.state.State.{State}
 use Rattle.search.specs.Cells.{Extends, look, assigned, open_count, bits}
 use Rattle.search.specs.States.{Grew, Keeps, Dead, Settled, cells_of}
 use Rattle.search.proofs.CellFacts.{extend_assigned, count_assigned}
-use Rattle.search.proofs.StateFacts.{grew_refl, grew_trans}
+use Rattle.search.proofs.StateFacts.{grew_trans}
 
 -- the literals of the clause whose count stands at i
 abbrev pub clause_at : List ℕ → ℕ → List ℕ
@@ -26,9 +26,6 @@ pub record Passing (ws : List ℕ) (s t : State) (i : ℕ) (moved : Bool) : Type
   pub keeps : Keeps ws s t
   pub rest : (a : ℕ → Bool) → clauses a (read ws) ≡ true → clauses a (read (drop i ws)) ≡ true
   pub progress : Progress ws s t i moved
-
-pub passing_start : (ws : List ℕ) (s : State) → well (length (cells_of s)) ws ≡ true → Passing ws s s 0 false
-passing_start ws s f = record { grew = grew_refl s; formed = f; keeps = λ a e m. e; rest = λ a e. e; progress = λ _. refl }
 
 module _ (ws : List ℕ) (s t : State) (i : ℕ) (moved : Bool) (p : Passing ws s t i moved) (b : i < length ws) where
   clauses_more : (a : ℕ → Bool) → clauses a (read (drop i ws)) ≡ (clause a (clause_at ws i) && clauses a (read (drop (i + 1 + get_or ws i 0) ws)))

@@ -1,6 +1,6 @@
 -- The loop over the literals of a clause. Assumes nothing.
-use Rattle.std.proofs.Common.{◌≡◌, ℕ, ◌+◌, ◌<◌, ◌≤◌, Bool, true, false, ◌||◌, List, length, get_or, drop, is_some, Some, None, Option, sym, refl, ap, ◌∙◌}
-use Rattle.std.proofs.lemmas.List.{at_drop_more, at_drop_all}
+use Rattle.std.proofs.Common.{◌≡◌, ℕ, ◌+◌, ◌<◌, Bool, true, false, ◌||◌, List, length, get_or, drop, is_some, Some, None, Option, sym, refl, ap, ◌∙◌}
+use Rattle.std.proofs.lemmas.List.{at_drop_more}
 use Rattle.std.proofs.lemmas.Bool.{false≢true}
 use Rattle.cnf.specs.Truth.{lit, clause, named, inside}
 use Rattle.search.specs.Cells.{look, Extends}
@@ -54,10 +54,3 @@ module _ (c : List (Option Bool)) (ws : List ℕ) (i : ℕ) where
     scanned_yes None l s a e = s.1 a e ∙ clause_is a true (lit_true c a (get_or ws i 0) (scanned_named None s) l e)
     scanned_yes (Some w) l s a e =
         s.3 a e ∙ ap (λ b. lit a w || b) (clause_is a true (lit_true c a (get_or ws i 0) (scanned_named (Some w) s) l e)) ∙ or_true (lit a w)
-
-  -- the end
-  pub scanned_none : length ws ≤ i → Scanned c ws i None → (a : ℕ → Bool) → Extends c a → clause a ws ≡ false
-  scanned_none h s a e = s.1 a e ∙ at_drop_all (clause a) ws i h
-
-  pub scanned_one : (w : ℕ) → length ws ≤ i → Scanned c ws i (Some w) → (a : ℕ → Bool) → Extends c a → clause a ws ≡ lit a w
-  scanned_one w h s a e = s.3 a e ∙ ap (λ b. lit a w || b) (at_drop_all (clause a) ws i h) ∙ or_false (lit a w)

@@ -26,7 +26,8 @@ pub struct CountingSolver {
 impl CountingSolver {
     // A solver that has searched nothing yet.
     pub fn new(heap: Global) -> Result<CountingSolver, AllocError>
-        ensures { IfOk result (λ s. (s.tally ≡ 0) × (s.kept.bits ≡ None)) }
+        ensures tally { IfOk result (λ s. s.tally ≡ 0) }
+        ensures kept { IfOk result (λ s. s.kept.bits ≡ None) }
     {
         Ok(CountingSolver {
             kept: Kept::with_capacity(heap, MAX_VARIABLES)?,

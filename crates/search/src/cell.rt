@@ -2,7 +2,7 @@
 ghost use Rattle.std.specs.Prelude.{◌≡◌, true, length, position};
 ghost use Rattle.std.specs.Option.{is_none};
 ghost use Rattle.cnf.specs.Truth.{named, inside};
-ghost use Rattle.search.specs.Cells.{look, made, Weighed, open_count};
+ghost use Rattle.search.specs.Cells.{look, Weighed};
 
 // What a clause comes to: a literal is true, all are false, all but one that is open are false, or more are open.
 #[derive(Clone, Copy)]
@@ -25,13 +25,6 @@ pub(crate) fn look_at(cells: &[Option<bool>], code: u16) -> Option<bool>
     } else {
         cell.map(|bit| !bit)
     }
-}
-
-// The cell that makes a literal true.
-pub(crate) fn made_by(code: u16) -> Option<bool>
-    ensures { result ≡ made code }
-{
-    Some(code % 2 == 0)
 }
 
 // What a clause comes to.

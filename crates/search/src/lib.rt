@@ -19,7 +19,8 @@ use std::alloc::{AllocError, Global};
 impl SearchSolver {
     // A solver that has searched nothing yet.
     pub fn new(heap: Global) -> Result<SearchSolver, AllocError>
-        ensures { IfOk result (λ s. (s.tally ≡ 0) × (s.kept.bits ≡ None)) }
+        ensures tally { IfOk result (λ s. s.tally ≡ 0) }
+        ensures kept { IfOk result (λ s. s.kept.bits ≡ None) }
     {
         let cells = Vec::with_capacity(heap, Self::CAPACITY)?;
         let trail = Vec::with_capacity(heap, Self::CAPACITY)?;

@@ -5,7 +5,7 @@ ghost use Rattle.cnf.specs.Words.{well};
 ghost use Rattle.solver.specs.Search.{Found, NoneFound};
 ghost use Rattle.search.specs.Cells.{bits, look, assigned, restored, open_count};
 
-use crate::cell::{Status, first_open, look_at, made_by, weigh};
+use crate::cell::{Status, first_open, look_at, weigh};
 use cnf::literal::opposite;
 use solver::kept::Kept;
 
@@ -35,6 +35,7 @@ impl State {
     ghost use Rattle.search.specs.Solving.{Solved, Tried};
 
     // Makes an open literal true.
+    #[tactic(auto, unfolding(crate::specs::Cells::assigned))]
     pub(crate) fn assign(&mut self, code: u16)
         requires known { named (length (cells_of self.old)) code ≡ true }
         requires free { look (cells_of self.old) code ≡ None }
@@ -43,8 +44,7 @@ impl State {
         ensures grew { Grew self.old self.new }
     {
         let place = code / 2 - 1;
-        let cell = made_by(code);
-        self.cells[place as usize] = cell;
+        self.cells[place as usize] = Some(code % 2 == 0);
         self.trail.push_reserved(place);
     }
 
@@ -116,10 +116,7 @@ impl State {
             return true;
         };
         let code = 2 * place as u16 + 2;
-        if self.attempt(list, code) {
-            return true;
-        }
-        if self.attempt(list, opposite(code)) {
+        if self.attempt(list, code) || self.attempt(list, opposite(code)) {
             return true;
         }
         self.undo(mark);
@@ -181,10 +178,7 @@ impl State {
         ensures found { MatchBool result (Found m list.now assumed.now (bits (cells_of self.new))) (NoneFound list.now assumed.now) }
     {
         self.reset(m);
-        if !self.assume(assumed) {
-            return false;
-        }
-        self.solve(list)
+        self.assume(assumed) && self.solve(list)
     }
 }
 

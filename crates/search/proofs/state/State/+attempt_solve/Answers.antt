@@ -44,8 +44,8 @@ solve-attempt-requires t c =
       ),
     )
 
-pub solve-attempt-requires-2 : goal.solve-attempt-requires-2
-solve-attempt-requires-2 t c =
+pub solve-attempt-requires-else-attempt : goal.solve-attempt-requires-else-attempt
+solve-attempt-requires-else-attempt t c =
     let v = c.if-attempt.ensures in
     let m = v.tried.same in
     let g = grew_trans c.args.self.now _ _ c.propagate.ensures.grew (same_grew _ c.attempt.new.self m) in

@@ -1,10 +1,9 @@
 // Every assignment, one after another.
-ghost use Rattle.std.specs.Prelude.{◌≡◌, ◌≤◌, true, take};
-ghost use Rattle.cnf.specs.Truth.{inside};
-ghost use Rattle.cnf.specs.Words.{well};
+ghost use Rattle.std.specs.Prelude.{◌≡◌, ◌≤◌, take};
 ghost use Rattle.solver.specs.Search.{Answered};
 ghost use Rattle.counting.specs.Tries.{fits, Tried};
 
+use solver::accept::Accepted;
 use solver::assumed::every_true;
 use solver::kept::Kept;
 use words::eval::satisfied;
@@ -35,18 +34,16 @@ fn find_from(bits: &mut [bool], place: usize, list: &[u16], assumed: &[u16]) -> 
     find_from(bits, place + 1, list, assumed)
 }
 
-// Keeps a model of the list over m variables that makes the assumed literals true, or nothing, and says whether there is one.
-pub(crate) fn find_model(kept: &mut Kept, m: usize, list: &[u16], assumed: &[u16]) -> bool
-    requires small { m ≤ 20 }
-    requires room { m ≤ kept.old.room }
-    requires formed { well m list.now ≡ true }
-    requires known { inside m assumed.now ≡ true }
+// Keeps a model of the list that makes the assumed literals true, or nothing, and says whether there is one.
+pub(crate) fn find_model(kept: &mut Kept, search: &Accepted) -> bool
+    requires small { search.now.m ≤ 20 }
+    requires room { search.now.m ≤ kept.old.room }
     ensures room { kept.new.room ≡ kept.old.room }
-    ensures answered { Answered m list.now assumed.now result kept.new.bits }
+    ensures answered { Answered search.now.m search.now.list.now search.now.assumed.now result kept.new.bits }
 {
     let mut bits = [false; MAX_VARIABLES];
-    let row = &mut bits[..m];
-    if !find_from(row, 0, list, assumed) {
+    let row = &mut bits[..search.m];
+    if !find_from(row, 0, search.list, search.assumed) {
         kept.clear();
         return false;
     }

@@ -11,7 +11,7 @@ mod tests;
 use faults::SolverFault;
 use find::{MAX_VARIABLES, find_model};
 use solver::Solver;
-use solver::accept::is_accepted;
+use solver::accept::Accepted;
 use solver::kept::Kept;
 use std::alloc::{AllocError, Global};
 
@@ -48,11 +48,9 @@ impl Solver for CountingSolver {
     ghost bounds = { Prim.search rules };
 
     fn search(&mut self, m: usize, list: &[u16], assumed: &[u16]) -> Result<bool, SolverFault> {
-        if !is_accepted(Self::CAPACITY, m, list, assumed) {
-            return Err(SolverFault::BadSearch);
-        }
+        let search = Accepted::new(Self::CAPACITY, m, list, assumed)?;
         self.tally = self.tally.saturating_add(1);
-        Ok(find_model(&mut self.kept, m, list, assumed))
+        Ok(find_model(&mut self.kept, &search))
     }
 
     fn value(&self, v: usize) -> Result<bool, SolverFault> {

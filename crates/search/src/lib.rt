@@ -11,7 +11,7 @@ mod state;
 use faults::SolverFault;
 pub use searcher::SearchSolver;
 use solver::Solver;
-use solver::accept::is_accepted;
+use solver::accept::Accepted;
 use solver::kept::Kept;
 use state::{State, keep};
 use std::alloc::{AllocError, Global};
@@ -44,11 +44,9 @@ impl Solver for SearchSolver {
     ghost bounds = { Prim.search rules };
 
     fn search(&mut self, m: usize, list: &[u16], assumed: &[u16]) -> Result<bool, SolverFault> {
-        if !is_accepted(Self::CAPACITY, m, list, assumed) {
-            return Err(SolverFault::BadSearch);
-        }
+        let search = Accepted::new(Self::CAPACITY, m, list, assumed)?;
         self.tally = self.tally.saturating_add(1);
-        let found = self.state.find(m, list, assumed);
+        let found = self.state.find(&search);
         if found {
             keep(&self.state.cells, &mut self.kept);
         } else {

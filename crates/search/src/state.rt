@@ -7,6 +7,7 @@ ghost use Rattle.search.specs.Cells.{bits, look, assigned, restored, open_count}
 
 use crate::cell::{Status, first_open, look_at, weigh};
 use cnf::literal::opposite;
+use solver::accept::Accepted;
 use solver::kept::Kept;
 
 // The cell of the variable v is at the place v - 1. The spaces are taken for the largest search: the trail holds places of
@@ -54,6 +55,7 @@ impl State {
         ensures cells { cells_of self.new ≡ restored (cells_of self.old) (drop mark (trail_of self.old)) }
         ensures trail { trail_of self.new ≡ take mark (trail_of self.old) }
     {
+        // One place at a time, since what holds of a state holds between the cells and the trail at each turn.
         while self.trail.len() > mark {
             if let Some(place) = self.trail.pop() {
                 self.cells[place as usize] = None;
@@ -169,16 +171,14 @@ impl State {
         true
     }
 
-    // Looks for a model of a list over m variables in which the assumed literals are true: the cells are one then.
-    pub(crate) fn find(&mut self, m: usize, list: &[u16], assumed: &[u16]) -> bool
-        requires small { m ≤ 2000 }
-        requires formed { well m list.now ≡ true }
-        requires known { inside m assumed.now ≡ true }
-        ensures size { length (cells_of self.new) ≡ m }
-        ensures found { MatchBool result (Found m list.now assumed.now (bits (cells_of self.new))) (NoneFound list.now assumed.now) }
+    // Looks for a model of the list in which the assumed literals are true: the cells are one then.
+    pub(crate) fn find(&mut self, search: &Accepted) -> bool
+        requires small { search.now.m ≤ 2000 }
+        ensures size { length (cells_of self.new) ≡ search.now.m }
+        ensures found { MatchBool result (Found search.now.m search.now.list.now search.now.assumed.now (bits (cells_of self.new))) (NoneFound search.now.list.now search.now.assumed.now) }
     {
-        self.reset(m);
-        self.assume(assumed) && self.solve(list)
+        self.reset(search.m);
+        self.assume(search.assumed) && self.solve(search.list)
     }
 }
 

@@ -1,12 +1,12 @@
 -- The two ways on from a place, and what all of them say together. Assumes nothing.
-use Rattle.std.proofs.Common.{◌≡◌, ℕ, ◌+◌, ◌<◌, ◌≤◌, Bool, true, false, not, ◌⊎◌, List, [], ◌∷◌, ◌++◌, length, get_or, take, set, sym, refl, ap, ◌∙◌, subst, inl, inr, ⊎_elim, arith}
-use Rattle.std.proofs.lemmas.List.{take_more, take_more_set, take-take, take-set, take_all, length-set}
-use Rattle.std.proofs.lemmas.Bool.{and_parts, and_from, both_ways}
+use Rattle.std.proofs.Common.{◌≡◌, ℕ, ◌+◌, ◌<◌, Bool, true, false, not, ◌⊎◌, List, [], ◌∷◌, ◌++◌, length, get_or, take, set, sym, refl, ap, ◌∙◌, subst, inl, inr, ⊎_elim, None, Option, arith}
+use Rattle.std.proofs.lemmas.List.{take_more, take_more_set, take-take, take-set, length-set}
+use Rattle.std.proofs.lemmas.Bool.{and_from, both_ways}
 use Rattle.cnf.specs.Truth.{told, inside}
 use Rattle.cnf.specs.Words.{read, well}
 use Rattle.cnf.proofs.Counting.{row, row_length, row_told, clauses_same}
 use Rattle.cnf.proofs.Reading.{read_means}
-use Rattle.solver.specs.Search.{Found, NoneFound, Answered, kept_by}
+use Rattle.solver.specs.Search.{NoneFound, Answered}
 use Rattle.solver.proofs.Assuming.{every_same}
 use Rattle.counting.specs.Tries.{fits, Tried}
 
@@ -26,11 +26,6 @@ either false true = inr refl
 either false false = inl refl
 
 module _ (p : List Bool → Bool) (i : ℕ) (bits : List Bool) where
-  -- at the end there is one row left
-  pub tried_end : (r : Bool) → length bits ≤ i → r ≡ p bits → Tried p i bits bits r
-  tried_end true h e = sym e
-  tried_end false h e = λ a l t. ap p (sym (take_all i a (omega arith)) ∙ t ∙ take_all i bits h) ∙ sym e
-
   -- neither bit at the place leads to a row with p, or the second does
   pub tried_both : (mid last : List Bool) (x y r : Bool) → i < length bits → length mid ≡ length bits → take i mid ≡ take i bits → Tried p (i + 1) (set bits i x) mid false
       → Tried p (i + 1) (set mid i y) last r → y ≡ not x → Tried p i bits last r
@@ -49,11 +44,6 @@ none m ws assumed w i f a s e =
     (and_from _ _ (clauses_same m (told bits) a r (read ws) (read_means m ws w).1 ∙ s.holds) (every_same m (told bits) a r assumed i ∙ e))
 
 -- from the first place on these are all rows
-pub answered : (m : ℕ) (ws assumed : List ℕ) (bits last items : List Bool) (r : Bool) → well m ws ≡ true → inside m assumed ≡ true → length bits ≡ m → length last ≡ m → items ≡ last
-    → Tried (fits ws assumed) 0 bits last r → Answered m ws assumed r (kept_by r items)
-answered m ws assumed bits last items true w i l k e h =
-    let both = and_parts _ _ h in
-    let found : Found m ws assumed last = record { size = k; model = record { constant = refl; holds = both.0 }; agrees = both.1 } in
-    let P : List Bool → Type 0 = λ x. Found m ws assumed x in
-    subst P (sym e) found
-answered m ws assumed bits last items false w i l k e h = none m ws assumed w i (λ a n. h a (n ∙ sym l) refl)
+pub answered_no : (m : ℕ) (ws assumed : List ℕ) (bits last : List Bool) (kept : Option (List Bool)) → well m ws ≡ true → inside m assumed ≡ true → length bits ≡ m
+    → Tried (fits ws assumed) 0 bits last false → kept ≡ None → Answered m ws assumed false kept
+answered_no m ws assumed bits last kept w i l h e = subst (Answered m ws assumed false) (sym e) (none m ws assumed w i (λ a n. h a (n ∙ sym l) refl))

@@ -1,13 +1,15 @@
 // Every assignment, one after another.
-ghost use Rattle.std.specs.Prelude.{◌≡◌, ◌≤◌, true, take, vec_capacity};
-ghost use Rattle.cnf.specs.Truth.{inside};
-ghost use Rattle.cnf.specs.Words.{well};
-ghost use Rattle.solver.specs.Search.{Answered, kept_by};
+ghost use Rattle.std.specs.Prelude.{◌≡◌, ◌≤◌, take};
+ghost use Rattle.solver.specs.Search.{Answered};
 ghost use Rattle.counting.specs.Tries.{fits, Tried};
 
+use solver::accept::Accepted;
 use solver::assumed::every_true;
 use solver::kept::Kept;
 use words::eval::satisfied;
+
+// The largest number of variables.
+pub(crate) const MAX_VARIABLES: usize = 20;
 
 // Whether the bits are a model of the list that makes the assumed literals true.
 fn is_model(bits: &[bool], list: &[u16], assumed: &[u16]) -> bool
@@ -32,18 +34,22 @@ fn find_from(bits: &mut [bool], place: usize, list: &[u16], assumed: &[u16]) -> 
     find_from(bits, place + 1, list, assumed)
 }
 
-// Keeps a model of the list over m variables that makes the assumed literals true, or nothing, and says whether there is one.
-pub(crate) fn find_model(store: &mut Kept, m: usize, list: &[u16], assumed: &[u16]) -> bool
-    requires room { m ≤ vec_capacity store.old.bits }
-    requires formed { well m list.now ≡ true }
-    requires known { inside m assumed.now ≡ true }
-    ensures cap { vec_capacity store.new.bits ≡ vec_capacity store.old.bits }
-    ensures answered { Answered m list.now assumed.now result (kept_by store.new.present store.new.bits.items) }
+// Keeps a model of the list that makes the assumed literals true, or nothing, and says whether there is one.
+pub(crate) fn find_model(kept: &mut Kept, search: &Accepted) -> bool
+    requires small { search.now.m ≤ 20 }
+    requires room { search.now.m ≤ kept.old.room }
+    ensures room { kept.new.room ≡ kept.old.room }
+    ensures answered { Answered search.now.m search.now.list.now search.now.assumed.now result kept.new.bits }
 {
-    store.bits.clear();
-    for i in 0..m {
-        store.bits.push_reserved(false);
+    let mut bits = [false; MAX_VARIABLES];
+    let row = &mut bits[..search.m];
+    if !find_from(row, 0, search.list, search.assumed) {
+        kept.clear();
+        return false;
     }
-    store.present = find_from(store.bits.as_mut_slice(), 0, list, assumed);
-    store.present
+    kept.start();
+    for bit in row.iter() {
+        kept.push(*bit);
+    }
+    true
 }

@@ -1,8 +1,7 @@
 // A solver that tries every assignment in turn: slow, and plain enough to hold the others to.
 #![tactic(auto)]
 
-ghost use Rattle.std.specs.Prelude.{◌≡◌, ◌≤◌, IfOk, None, vec_capacity};
-ghost use Rattle.solver.specs.Search.{kept_by};
+ghost use Rattle.std.specs.Prelude.{◌≡◌, ◌≤◌, IfOk, None};
 ghost use Rattle.std.proofs.Common.{rules};
 
 mod find;
@@ -10,9 +9,9 @@ mod find;
 mod tests;
 
 use faults::SolverFault;
-use find::find_model;
+use find::{MAX_VARIABLES, find_model};
 use solver::Solver;
-use solver::accept::is_accepted;
+use solver::accept::Accepted;
 use solver::kept::Kept;
 use std::alloc::{AllocError, Global};
 
@@ -21,43 +20,37 @@ use std::alloc::{AllocError, Global};
 pub struct CountingSolver {
     kept: Kept,
     tally: u32,
-    ghost room: { 20 ≤ vec_capacity kept.bits },
+    ghost room: { 20 ≤ kept.room },
 }
 
 impl CountingSolver {
     // A solver that has searched nothing yet.
     pub fn new(heap: Global) -> Result<CountingSolver, AllocError>
-        ensures { IfOk result (λ s. (s.tally ≡ 0) × (kept_by s.kept.present s.kept.bits.items ≡ None)) }
+        ensures tally { IfOk result (λ s. s.tally ≡ 0) }
+        ensures kept { IfOk result (λ s. s.kept.bits ≡ None) }
     {
-        let bits = Vec::with_capacity(heap, 20)?;
         Ok(CountingSolver {
-            kept: Kept {
-                bits,
-                present: false,
-            },
+            kept: Kept::with_capacity(heap, MAX_VARIABLES)?,
             tally: 0,
         })
     }
 }
 
 impl Solver for CountingSolver {
-    const CAPACITY: usize = 20;
+    const CAPACITY: usize = MAX_VARIABLES;
 
     ghost CAPACITY = { 20 };
 
     ghost tally = { λ s. s.tally };
 
-    ghost kept = { λ s. kept_by s.kept.present s.kept.bits.items };
+    ghost kept = { λ s. s.kept.bits };
 
     ghost bounds = { Prim.search rules };
 
     fn search(&mut self, m: usize, list: &[u16], assumed: &[u16]) -> Result<bool, SolverFault> {
-        if !is_accepted(Self::CAPACITY, m, list, assumed) {
-            return Err(SolverFault::BadSearch);
-        }
+        let search = Accepted::new(Self::CAPACITY, m, list, assumed)?;
         self.tally = self.tally.saturating_add(1);
-        let found = find_model(&mut self.kept, m, list, assumed);
-        Ok(found)
+        Ok(find_model(&mut self.kept, &search))
     }
 
     fn value(&self, v: usize) -> Result<bool, SolverFault> {

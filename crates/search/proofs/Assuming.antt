@@ -1,27 +1,20 @@
 -- The loop over the assumed literals, and what a search for a model under them comes to. Assumes nothing.
-use Rattle.std.proofs.Common.{◌≡◌, ℕ, ◌+◌, ◌<◌, ◌≤◌, Bool, true, false, ◌&&◌, List, length, get_or, drop, MatchBool, sym, refl, ap, ◌∙◌, subst}
-use Rattle.std.proofs.lemmas.List.{at_drop_more, at_drop_all}
+use Rattle.std.proofs.Common.{◌≡◌, ℕ, ◌+◌, ◌<◌, Bool, true, false, ◌&&◌, List, length, get_or, drop, sym, ap, ◌∙◌, subst, Option, Some}
+use Rattle.std.proofs.lemmas.List.{at_drop_more}
 use Rattle.std.proofs.lemmas.Bool.{and_parts, both_ways}
 use Rattle.cnf.specs.Truth.{lit, named, inside}
-use Rattle.solver.specs.Search.{every, Found, NoneFound}
-use Rattle.search.specs.declared.cell.Cell.{Cell}
-use Rattle.search.specs.declared.cell.Cell.TheVariants.{No, Yes}
+use Rattle.solver.specs.Search.{every}
 use Rattle.search.specs.declared.state.State.{State}
-use Rattle.search.specs.Cells.{Extends, look, assigned, bits}
-use Rattle.search.specs.States.{Sound, Grew, Assumed, cells_of}
-use Rattle.search.specs.Solving.{Solved}
-use Rattle.search.proofs.CellFacts.{named_at, lit_true, lit_false, extend_assigned, look-assigned, bits-length}
-use Rattle.search.proofs.StateFacts.{grew_refl, grew_trans}
+use Rattle.search.specs.Cells.{Extends, look, assigned}
+use Rattle.search.specs.States.{Grew, Assumed, cells_of}
+use Rattle.search.proofs.CellFacts.{named_at, lit_true, lit_false, extend_assigned, look-assigned}
+use Rattle.search.proofs.StateFacts.{grew_trans}
 
 pub record Assuming (ws : List ℕ) (s t : State) (i : ℕ) : Type 0 where
   pub grew : Grew s t
-  pub sound : Sound t
   pub known : inside (length (cells_of t)) (drop i ws) ≡ true
   pub onto : (a : ℕ → Bool) → Extends (cells_of s) a → every a ws ≡ true → Extends (cells_of t) a
   pub rest : (a : ℕ → Bool) → Extends (cells_of t) a → every a ws ≡ every a (drop i ws)
-
-pub assuming_start : (ws : List ℕ) (s : State) → Sound s → inside (length (cells_of s)) ws ≡ true → Assuming ws s s 0
-assuming_start ws s h k = record { grew = grew_refl s; sound = h; known = k; onto = λ a e m. e; rest = λ a e. refl }
 
 module _ (ws : List ℕ) (s t : State) (i : ℕ) (p : Assuming ws s t i) (b : i < length ws) where
   every_more : (a : ℕ → Bool) (x : Bool) → lit a (get_or ws i 0) ≡ x → every a (drop i ws) ≡ (x && every a (drop (i + 1) ws))
@@ -30,43 +23,32 @@ module _ (ws : List ℕ) (s t : State) (i : ℕ) (p : Assuming ws s t i) (b : i 
   pub assuming_known : named (length (cells_of t)) (get_or ws i 0) ≡ true
   assuming_known = (named_at (length (cells_of t)) ws i b p.known).0
 
-  pub assuming_yes : Yes ≡ look (cells_of t) (get_or ws i 0) → Assuming ws s t (i + 1)
+  pub assuming_yes : Some true ≡ look (cells_of t) (get_or ws i 0) → Assuming ws s t (i + 1)
   assuming_yes l = record {
     grew = p.grew;
-    sound = p.sound;
     known = (named_at (length (cells_of t)) ws i b p.known).1;
     onto = p.onto;
     rest = λ a e. p.rest a e ∙ every_more a true (lit_true (cells_of t) a (get_or ws i 0) assuming_known l e);
   }
 
-  pub assuming_no : No ≡ look (cells_of t) (get_or ws i 0) → Assumed ws s t false
+  pub assuming_no : Some false ≡ look (cells_of t) (get_or ws i 0) → Assumed ws s t false
   assuming_no l = λ a e m.
       let x = p.onto a e m in
       both_ways (every a ws) (p.rest a x ∙ every_more a false (lit_false (cells_of t) a (get_or ws i 0) assuming_known l x)) m
 
-  pub assuming_open : (u : State) → cells_of u ≡ assigned (cells_of t) (get_or ws i 0) → Grew t u → Sound u → Assuming ws s u (i + 1)
-  assuming_open u cs g h =
+  pub assuming_open : (u : State) → cells_of u ≡ assigned (cells_of t) (get_or ws i 0) → Grew t u → Assuming ws s u (i + 1)
+  assuming_open u cs g =
       let w = get_or ws i 0 in
       let k : named (length (cells_of u)) w ≡ true = ap (λ n. named n w) g.size ∙ assuming_known in
       record {
         grew = grew_trans s t u p.grew g;
-        sound = h;
         known = ap (λ n. inside n (drop (i + 1) ws)) g.size ∙ (named_at (length (cells_of t)) ws i b p.known).1;
         onto = λ a e m.
             let x = p.onto a e m in
             let y = and_parts (lit a w) _ (sym (at_drop_more (every a) ws i 0 b) ∙ sym (p.rest a x) ∙ m) in
-            let P : List Cell → Type 0 = λ c. Extends c a in
+            let P : List (Option Bool) → Type 0 = λ c. Extends c a in
             subst P (sym cs) (extend_assigned (cells_of t) w a assuming_known y.0 x);
         rest = λ a e.
             p.rest a (g.finer a e)
             ∙ every_more a true (lit_true (cells_of u) a w k (sym (ap (λ c. look c w) cs ∙ look-assigned (cells_of t) w assuming_known)) e);
       }
-
-pub assuming_end : (ws : List ℕ) (s t : State) (i : ℕ) → length ws ≤ i → Assuming ws s t i → Assumed ws s t true
-assuming_end ws s t i h p = (p.onto, λ a e. p.rest a e ∙ at_drop_all (every a) ws i h)
-
-pub found_by : (m : ℕ) (ws assumed : List ℕ) (s t u : State) (r : Bool) → ((a : ℕ → Bool) → Extends (cells_of s) a) → Assumed assumed s t true
-    → length (cells_of u) ≡ m → Solved ws t u r → MatchBool r (Found m ws assumed (bits (cells_of u))) (NoneFound ws assumed)
-found_by m ws assumed s t u true ext lits size h =
-    record { size = bits-length (cells_of u) ∙ size; model = record { constant = refl; holds = h.holds }; agrees = lits.1 _ h.as_before }
-found_by m ws assumed s t u false ext lits size h = λ a k e. h.none a (lits.0 a (ext a) e) k.holds

@@ -1,17 +1,15 @@
 -- The loop over the clauses of a list. Assumes nothing.
-use Rattle.std.proofs.Common.{◌≡◌, ℕ, ◌+◌, ◌<◌, ◌≤◌, Bool, true, false, ◌&&◌, List, length, get_or, take, drop, sym, refl, ap, ◌∙◌, subst, arith}
+use Rattle.std.proofs.Common.{◌≡◌, ℕ, ◌+◌, ◌<◌, ◌≤◌, Bool, true, false, ◌&&◌, List, length, get_or, take, drop, sym, ap, ◌∙◌, subst, arith, Option, None}
 use Rattle.std.proofs.lemmas.List.{at_drop_all}
 use Rattle.std.proofs.lemmas.Bool.{and_parts, both_ways}
 use Rattle.cnf.specs.Truth.{told, lit, clause, clauses, named}
 use Rattle.cnf.specs.Words.{read, well}
 use Rattle.cnf.proofs.Reading.{clause_here, read_more, read-nil}
-use Rattle.search.specs.declared.cell.Cell.{Cell}
-use Rattle.search.specs.declared.cell.Cell.TheVariants.{Open}
 use Rattle.search.specs.declared.state.State.{State}
 use Rattle.search.specs.Cells.{Extends, look, assigned, open_count, bits}
-use Rattle.search.specs.States.{Sound, Grew, Keeps, Dead, Settled, cells_of}
+use Rattle.search.specs.States.{Grew, Keeps, Dead, Settled, cells_of}
 use Rattle.search.proofs.CellFacts.{extend_assigned, count_assigned}
-use Rattle.search.proofs.StateFacts.{grew_refl, grew_trans}
+use Rattle.search.proofs.StateFacts.{grew_trans}
 
 -- the literals of the clause whose count stands at i
 abbrev pub clause_at : List ℕ → ℕ → List ℕ
@@ -24,14 +22,10 @@ Progress ws s t i false = open_count (cells_of t) ≡ 0 → clauses (told (bits 
 
 pub record Passing (ws : List ℕ) (s t : State) (i : ℕ) (moved : Bool) : Type 0 where
   pub grew : Grew s t
-  pub sound : Sound t
   pub formed : well (length (cells_of t)) (drop i ws) ≡ true
   pub keeps : Keeps ws s t
   pub rest : (a : ℕ → Bool) → clauses a (read ws) ≡ true → clauses a (read (drop i ws)) ≡ true
   pub progress : Progress ws s t i moved
-
-pub passing_start : (ws : List ℕ) (s : State) → Sound s → well (length (cells_of s)) ws ≡ true → Passing ws s s 0 false
-passing_start ws s h f = record { grew = grew_refl s; sound = h; formed = f; keeps = λ a e m. e; rest = λ a e. e; progress = λ _. refl }
 
 module _ (ws : List ℕ) (s t : State) (i : ℕ) (moved : Bool) (p : Passing ws s t i moved) (b : i < length ws) where
   clauses_more : (a : ℕ → Bool) → clauses a (read (drop i ws)) ≡ (clause a (clause_at ws i) && clauses a (read (drop (i + 1 + get_or ws i 0) ws)))
@@ -54,7 +48,6 @@ module _ (ws : List ℕ) (s t : State) (i : ℕ) (moved : Bool) (p : Passing ws 
   pub passing_hold : (open_count (cells_of t) ≡ 0 → clause (told (bits (cells_of t))) (clause_at ws i) ≡ true) → Passing ws s t (i + 1 + get_or ws i 0) moved
   passing_hold f = record {
     grew = p.grew;
-    sound = p.sound;
     formed = (clause_here (length (cells_of t)) ws i b p.formed).good;
     keeps = p.keeps;
     rest = λ a m. (clause_true a m).1;
@@ -62,16 +55,15 @@ module _ (ws : List ℕ) (s t : State) (i : ℕ) (moved : Bool) (p : Passing ws 
   }
 
   -- a clause forces a literal
-  pub passing_force : (u : State) (w : ℕ) → named (length (cells_of t)) w ≡ true → look (cells_of t) w ≡ Open
-      → ((a : ℕ → Bool) → Extends (cells_of t) a → clause a (clause_at ws i) ≡ lit a w) → Grew t u → Sound u → cells_of u ≡ assigned (cells_of t) w
+  pub passing_force : (u : State) (w : ℕ) → named (length (cells_of t)) w ≡ true → look (cells_of t) w ≡ None
+      → ((a : ℕ → Bool) → Extends (cells_of t) a → clause a (clause_at ws i) ≡ lit a w) → Grew t u → cells_of u ≡ assigned (cells_of t) w
       → Passing ws s u (i + 1 + get_or ws i 0) true
-  passing_force u w n o f g h cs = record {
+  passing_force u w n o f g cs = record {
     grew = grew_trans s t u p.grew g;
-    sound = h;
     formed = ap (λ k. well k (drop (i + 1 + get_or ws i 0) ws)) g.size ∙ (clause_here (length (cells_of t)) ws i b p.formed).good;
     keeps = λ a e m.
         let x = p.keeps a e m in
-        let P : List Cell → Type 0 = λ c. Extends c a in
+        let P : List (Option Bool) → Type 0 = λ c. Extends c a in
         subst P (sym cs) (extend_assigned (cells_of t) w a n (sym (f a x) ∙ (clause_true a m).0) x);
     rest = λ a m. (clause_true a m).1;
     progress = omega (arith, p.grew.fewer, ap open_count cs, count_assigned (cells_of t) w n o);

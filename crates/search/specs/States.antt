@@ -1,29 +1,18 @@
 -- The state of a search, and what its steps do. Assumes nothing.
-use Rattle.std.specs.Prelude.{◌≡◌, ℕ, ◌+◌, ◌<◌, ◌≤◌, Bool, true, false, List, ◌++◌, length, vec_items, vec_len, vec_capacity, ◌≢◌, slice_index}
+use Rattle.std.specs.Prelude.{◌≡◌, ℕ, ◌<◌, ◌≤◌, Bool, true, false, List, Option, ◌++◌, length, vec_items, ◌≢◌}
 use Rattle.cnf.specs.Truth.{told, clauses}
 use Rattle.cnf.specs.Words.{read}
 use Rattle.solver.specs.Search.{every}
-use Rattle.search.specs.declared.cell.Cell.{Cell}
 use Rattle.search.specs.declared.state.Pass.{Pass}
 use Rattle.search.specs.declared.state.Pass.TheVariants.{Refuted, Moved, Quiet}
 use Rattle.search.specs.declared.state.State.{State}
 use Rattle.search.specs.Cells.{Extends, open_count, bits, restored}
 
-abbrev pub cells_of : State → List Cell
+abbrev pub cells_of : State → List (Option Bool)
 cells_of s = vec_items s.cells
 
 abbrev pub trail_of : State → List ℕ
 trail_of s = vec_items s.trail
-
--- how much room the two rows have
-abbrev pub room_of : State → ℕ × ℕ
-room_of s = (vec_capacity s.cells, vec_capacity s.trail)
-
--- the trail has room for every open variable, and holds places of cells
-pub record Sound (s : State) : Type 0 where
-  pub room : vec_len s.trail + open_count (cells_of s) ≤ vec_capacity s.trail
-  pub places : (k : ℕ) → k < length (trail_of s) → slice_index (trail_of s) k < length (cells_of s)
-  pub small : length (cells_of s) ≤ 2000
 
 -- t came from s by literals that were made true
 pub record Grew (s t : State) : Type 0 where
@@ -33,13 +22,11 @@ pub record Grew (s t : State) : Type 0 where
   pub finer : (a : ℕ → Bool) → Extends (cells_of t) a → Extends (cells_of s) a
   pub size : length (cells_of t) ≡ length (cells_of s)
   pub fewer : open_count (cells_of t) ≤ open_count (cells_of s)
-  pub room : room_of t ≡ room_of s
 
 -- s and t are the same but for where they lie
 pub record Same (s t : State) : Type 0 where
   pub cells : cells_of t ≡ cells_of s
   pub trail : trail_of t ≡ trail_of s
-  pub room : room_of t ≡ room_of s
 
 -- every model that extends s extends t
 abbrev pub Keeps : List ℕ → State → State → Type 0

@@ -1,15 +1,8 @@
-// Partial assignments, and what a clause comes to under one.
-ghost use Rattle.std.specs.Prelude.{◌≡◌, ◌<◌, true, length, MatchOption, slice_index_or};
+// Partial assignments, and what a clause comes to under one. A cell has the bit of a variable, or none while it is open.
+ghost use Rattle.std.specs.Prelude.{◌≡◌, true, length, position};
+ghost use Rattle.std.specs.Option.{is_none};
 ghost use Rattle.cnf.specs.Truth.{named, inside};
-ghost use Rattle.search.specs.Cells.{look, made, Weighed, open_count, is_yes};
-
-// What is known of a variable.
-#[derive(Clone, Copy)]
-pub(crate) enum Cell {
-    Open,
-    No,
-    Yes,
-}
+ghost use Rattle.search.specs.Cells.{look, Weighed};
 
 // What a clause comes to: a literal is true, all are false, all but one that is open are false, or more are open.
 #[derive(Clone, Copy)]
@@ -21,39 +14,30 @@ pub(crate) enum Status {
 }
 
 // The cell of a literal.
-pub(crate) fn look_at(cells: &[Cell], code: u16) -> Cell
+#[tactic(auto, unfolding(crate::specs::Cells::look))]
+pub(crate) fn look_at(cells: &[Option<bool>], code: u16) -> Option<bool>
     requires { named (length cells.now) code ≡ true }
     ensures { result ≡ look cells.now code }
 {
     let cell = cells[(code / 2 - 1) as usize];
     if code % 2 == 0 {
-        return cell;
+        cell
+    } else {
+        cell.map(|bit| !bit)
     }
-    match cell {
-        Cell::Open => Cell::Open,
-        Cell::No => Cell::Yes,
-        Cell::Yes => Cell::No,
-    }
-}
-
-// The cell that makes a literal true.
-pub(crate) fn made_by(code: u16) -> Cell
-    ensures { result ≡ made code }
-{
-    if code % 2 == 0 { Cell::Yes } else { Cell::No }
 }
 
 // What a clause comes to.
-pub(crate) fn weigh(cells: &[Cell], body: &[u16]) -> Status
+pub(crate) fn weigh(cells: &[Option<bool>], body: &[u16]) -> Status
     requires { inside (length cells.now) body.now ≡ true }
     ensures { Weighed cells.now body.now result }
 {
     let mut last: Option<u16> = None;
     for code in body {
         match look_at(cells, *code) {
-            Cell::Yes => return Status::Satisfied,
-            Cell::No => {}
-            Cell::Open => {
+            Some(true) => return Status::Satisfied,
+            Some(false) => {}
+            None => {
                 if last.is_some() {
                     return Status::Unresolved;
                 }
@@ -68,23 +52,8 @@ pub(crate) fn weigh(cells: &[Cell], body: &[u16]) -> Status
 }
 
 // The lowest open place.
-pub(crate) fn first_open(cells: &[Cell]) -> Option<usize>
-    ensures { MatchOption result (open_count cells.now ≡ 0) (λ i. (i < length cells.now) × (slice_index_or cells.now i Cell.Open ≡ Cell.Open)) }
+pub(crate) fn first_open(cells: &[Option<bool>]) -> Option<usize>
+    ensures { result ≡ position is_none cells.now }
 {
-    for (i, x) in cells.iter().enumerate() {
-        if let Cell::Open = x {
-            return Some(i);
-        }
-    }
-    None
-}
-
-// Whether a cell is yes.
-pub(crate) fn is_yes(cell: Cell) -> bool
-    ensures { result ≡ is_yes cell }
-{
-    match cell {
-        Cell::Yes => true,
-        Cell::No | Cell::Open => false,
-    }
+    cells.iter().position(|cell| cell.is_none())
 }

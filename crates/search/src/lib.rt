@@ -2,7 +2,6 @@
 #![tactic(auto)]
 
 ghost use Rattle.std.specs.Prelude.{◌≡◌, IfOk, None};
-ghost use Rattle.solver.specs.Search.{kept_by};
 ghost use Rattle.std.proofs.Common.{rules};
 
 mod cell;
@@ -12,7 +11,7 @@ mod state;
 use faults::SolverFault;
 pub use searcher::SearchSolver;
 use solver::Solver;
-use solver::accept::is_accepted;
+use solver::accept::Accepted;
 use solver::kept::Kept;
 use state::{State, keep};
 use std::alloc::{AllocError, Global};
@@ -20,17 +19,14 @@ use std::alloc::{AllocError, Global};
 impl SearchSolver {
     // A solver that has searched nothing yet.
     pub fn new(heap: Global) -> Result<SearchSolver, AllocError>
-        ensures { IfOk result (λ s. (s.tally ≡ 0) × (kept_by s.kept.present s.kept.bits.items ≡ None)) }
+        ensures tally { IfOk result (λ s. s.tally ≡ 0) }
+        ensures kept { IfOk result (λ s. s.kept.bits ≡ None) }
     {
         let cells = Vec::with_capacity(heap, Self::CAPACITY)?;
         let trail = Vec::with_capacity(heap, Self::CAPACITY)?;
-        let bits = Vec::with_capacity(heap, Self::CAPACITY)?;
         Ok(SearchSolver {
             state: State { cells, trail },
-            kept: Kept {
-                bits,
-                present: false,
-            },
+            kept: Kept::with_capacity(heap, Self::CAPACITY)?,
             tally: 0,
         })
     }
@@ -43,20 +39,18 @@ impl Solver for SearchSolver {
 
     ghost tally = { λ s. s.tally };
 
-    ghost kept = { λ s. kept_by s.kept.present s.kept.bits.items };
+    ghost kept = { λ s. s.kept.bits };
 
     ghost bounds = { Prim.search rules };
 
     fn search(&mut self, m: usize, list: &[u16], assumed: &[u16]) -> Result<bool, SolverFault> {
-        if !is_accepted(Self::CAPACITY, m, list, assumed) {
-            return Err(SolverFault::BadSearch);
-        }
+        let search = Accepted::new(Self::CAPACITY, m, list, assumed)?;
         self.tally = self.tally.saturating_add(1);
-        let found = self.state.find(m, list, assumed);
+        let found = self.state.find(&search);
         if found {
             keep(&self.state.cells, &mut self.kept);
         } else {
-            self.kept.present = false;
+            self.kept.clear();
         }
         Ok(found)
     }

@@ -1,21 +1,26 @@
 // The search: a partial assignment, and the trail of the places that were set.
-ghost use Rattle.std.specs.Prelude.{◌≡◌, ◌+◌, ◌≤◌, true, length, take, drop, replicate, vec_len, vec_capacity, MatchBool};
+ghost use Rattle.std.specs.Prelude.{◌≡◌, ◌+◌, ◌<◌, ◌≤◌, true, length, None, Some, take, drop, replicate, vec_len, vec_capacity, All, MatchBool};
 ghost use Rattle.cnf.specs.Truth.{named, inside};
 ghost use Rattle.cnf.specs.Words.{well};
 ghost use Rattle.solver.specs.Search.{Found, NoneFound};
 ghost use Rattle.search.specs.Cells.{bits, look, assigned, restored, open_count};
-ghost use Rattle.search.specs.States.{Sound, Grew, Passed, Propagated, Assumed, cells_of, trail_of, room_of};
-ghost use Rattle.search.specs.Solving.{Solved, Tried};
 
-use crate::cell::{Cell, Status, first_open, is_yes, look_at, made_by, weigh};
+use crate::cell::{Status, first_open, look_at, weigh};
 use cnf::literal::opposite;
+use solver::accept::Accepted;
 use solver::kept::Kept;
 
-// The cell of the variable v is at the place v - 1.
+// The cell of the variable v is at the place v - 1. The spaces are taken for the largest search: the trail holds places of
+// cells, and has room for every variable that is open.
 #[derive(Drop)]
 pub(crate) struct State {
-    pub(crate) cells: Vec<Cell>,
+    pub(crate) cells: Vec<Option<bool>>,
     pub(crate) trail: Vec<u16>,
+    ghost cells_room: { 2000 ≤ vec_capacity cells },
+    ghost trail_room: { 2000 ≤ vec_capacity trail },
+    ghost small: { length cells.items ≤ 2000 },
+    ghost spare: { vec_len trail + open_count cells.items ≤ 2000 },
+    ghost places: { All (λ i. i < length cells.items) trail.items },
 }
 
 // How a pass over the list ended.
@@ -27,44 +32,41 @@ pub(crate) enum Pass {
 }
 
 impl State {
+    ghost use Rattle.search.specs.States.{Grew, Passed, Propagated, Assumed, cells_of, trail_of};
+    ghost use Rattle.search.specs.Solving.{Solved, Tried};
+
     // Makes an open literal true.
+    #[tactic(auto, unfolding(crate::specs::Cells::assigned))]
     pub(crate) fn assign(&mut self, code: u16)
-        requires sound { Sound self.old }
         requires known { named (length (cells_of self.old)) code ≡ true }
-        requires free { look (cells_of self.old) code ≡ Cell.Open }
+        requires free { look (cells_of self.old) code ≡ None }
         ensures cells { cells_of self.new ≡ assigned (cells_of self.old) code }
         ensures count { open_count (cells_of self.new) + 1 ≡ open_count (cells_of self.old) }
         ensures grew { Grew self.old self.new }
-        ensures sound { Sound self.new }
     {
         let place = code / 2 - 1;
-        let cell = made_by(code);
-        self.cells[place as usize] = cell;
+        self.cells[place as usize] = Some(code % 2 == 0);
         self.trail.push_reserved(place);
     }
 
     // Opens what was set since the trail had `mark` places.
     pub(crate) fn undo(&mut self, mark: usize)
-        requires sound { Sound self.old }
         requires within { mark ≤ vec_len self.old.trail }
         ensures cells { cells_of self.new ≡ restored (cells_of self.old) (drop mark (trail_of self.old)) }
         ensures trail { trail_of self.new ≡ take mark (trail_of self.old) }
-        ensures room { room_of self.new ≡ room_of self.old }
-        ensures sound { Sound self.new }
     {
+        // One place at a time, since what holds of a state holds between the cells and the trail at each turn.
         while self.trail.len() > mark {
             if let Some(place) = self.trail.pop() {
-                self.cells[place as usize] = Cell::Open;
+                self.cells[place as usize] = None;
             }
         }
     }
 
     // Goes once over the list, and makes true what a clause forces.
     pub(crate) fn pass(&mut self, list: &[u16]) -> Pass
-        requires sound { Sound self.old }
         requires formed { well (length (cells_of self.old)) list.now ≡ true }
         ensures grew { Grew self.old self.new }
-        ensures sound { Sound self.new }
         ensures passed { Passed list.now self.old self.new result }
     {
         let mut moved = false;
@@ -85,11 +87,10 @@ impl State {
     }
 
     // Makes true what clauses force, until none forces more: no where a clause fails.
+    #[tactic(auto, using(crate::proofs::StateFacts::grew_trans))]
     pub(crate) fn propagate(&mut self, list: &[u16]) -> bool
-        requires sound { Sound self.old }
         requires formed { well (length (cells_of self.old)) list.now ≡ true }
         ensures grew { Grew self.old self.new }
-        ensures sound { Sound self.new }
         ensures done { Propagated list.now self.old self.new result }
     {
         loop {
@@ -104,11 +105,8 @@ impl State {
     // Looks for a model that extends the cells: they are one then, and else as they were.
     #[cycle(attempt_solve)]
     pub(crate) fn solve(&mut self, list: &[u16]) -> bool
-        requires sound { Sound self.old }
         requires formed { well (length (cells_of self.old)) list.now ≡ true }
-        ensures sound { Sound self.new }
         ensures size { length (cells_of self.new) ≡ length (cells_of self.old) }
-        ensures room { room_of self.new ≡ room_of self.old }
         ensures solved { Solved list.now self.old self.new result }
     {
         let mark = self.trail.len();
@@ -120,10 +118,7 @@ impl State {
             return true;
         };
         let code = 2 * place as u16 + 2;
-        if self.attempt(list, code) {
-            return true;
-        }
-        if self.attempt(list, opposite(code)) {
+        if self.attempt(list, code) || self.attempt(list, opposite(code)) {
             return true;
         }
         self.undo(mark);
@@ -133,13 +128,10 @@ impl State {
     // Looks for a model that extends the cells and makes an open literal true: the cells are one then, and else as they were.
     #[cycle(attempt_solve)]
     pub(crate) fn attempt(&mut self, list: &[u16], code: u16) -> bool
-        requires sound { Sound self.old }
         requires formed { well (length (cells_of self.old)) list.now ≡ true }
         requires known { named (length (cells_of self.old)) code ≡ true }
-        requires free { look (cells_of self.old) code ≡ Cell.Open }
-        ensures sound { Sound self.new }
+        requires free { look (cells_of self.old) code ≡ None }
         ensures size { length (cells_of self.new) ≡ length (cells_of self.old) }
-        ensures room { room_of self.new ≡ room_of self.old }
         ensures tried { Tried code list.now self.old self.new result }
     {
         let mark = self.trail.len();
@@ -154,66 +146,50 @@ impl State {
     // Opens m variables, with none set.
     pub(crate) fn reset(&mut self, m: usize)
         requires small { m ≤ 2000 }
-        requires cells { 2000 ≤ vec_capacity self.old.cells }
-        requires trail { 2000 ≤ vec_capacity self.old.trail }
-        ensures cells { cells_of self.new ≡ replicate m Cell.Open }
-        ensures room { room_of self.new ≡ room_of self.old }
-        ensures sound { Sound self.new }
+        ensures cells { cells_of self.new ≡ replicate m None }
     {
         self.trail.clear();
         self.cells.clear();
-        while self.cells.len() < m {
-            self.cells.push_reserved(Cell::Open);
+        for _ in 0..m {
+            self.cells.push_reserved(None);
         }
     }
 
     // Makes the assumed literals true: no where one of them is false already.
     pub(crate) fn assume(&mut self, assumed: &[u16]) -> bool
-        requires sound { Sound self.old }
         requires known { inside (length (cells_of self.old)) assumed.now ≡ true }
         ensures grew { Grew self.old self.new }
-        ensures sound { Sound self.new }
         ensures assumed { Assumed assumed.now self.old self.new result }
     {
         for code in assumed {
             match look_at(&self.cells, *code) {
-                Cell::Yes => {}
-                Cell::No => return false,
-                Cell::Open => self.assign(*code),
+                Some(true) => {}
+                Some(false) => return false,
+                None => self.assign(*code),
             }
         }
         true
     }
 
-    // Looks for a model of a list over m variables in which the assumed literals are true: the cells are one then.
-    pub(crate) fn find(&mut self, m: usize, list: &[u16], assumed: &[u16]) -> bool
-        requires small { m ≤ 2000 }
-        requires cells { 2000 ≤ vec_capacity self.old.cells }
-        requires trail { 2000 ≤ vec_capacity self.old.trail }
-        requires formed { well m list.now ≡ true }
-        requires known { inside m assumed.now ≡ true }
-        ensures room { room_of self.new ≡ room_of self.old }
-        ensures size { length (cells_of self.new) ≡ m }
-        ensures found { MatchBool result (Found m list.now assumed.now (bits (cells_of self.new))) (NoneFound list.now assumed.now) }
+    // Looks for a model of the list in which the assumed literals are true: the cells are one then.
+    pub(crate) fn find(&mut self, search: &Accepted) -> bool
+        requires small { search.now.m ≤ 2000 }
+        ensures size { length (cells_of self.new) ≡ search.now.m }
+        ensures found { MatchBool result (Found search.now.m search.now.list.now search.now.assumed.now (bits (cells_of self.new))) (NoneFound search.now.list.now search.now.assumed.now) }
     {
-        self.reset(m);
-        if !self.assume(assumed) {
-            return false;
-        }
-        self.solve(list)
+        self.reset(search.m);
+        self.assume(search.assumed) && self.solve(search.list)
     }
 }
 
-// Keeps what the cells say.
-pub(crate) fn keep(cells: &[Cell], store: &mut Kept)
-    requires { length cells.now ≤ vec_capacity store.old.bits }
-    ensures bits { store.new.bits.items ≡ bits cells.now }
-    ensures present { store.new.present ≡ true }
-    ensures cap { vec_capacity store.new.bits ≡ vec_capacity store.old.bits }
+// Keeps what the cells say, a variable that is open as false.
+pub(crate) fn keep(cells: &[Option<bool>], kept: &mut Kept)
+    requires { length cells.now ≤ kept.old.room }
+    ensures bits { kept.new.bits ≡ Some (bits cells.now) }
+    ensures room { kept.new.room ≡ kept.old.room }
 {
-    store.bits.clear();
-    for x in cells {
-        store.bits.push_reserved(is_yes(*x));
+    kept.start();
+    for cell in cells {
+        kept.push(cell.unwrap_or(false));
     }
-    store.present = true;
 }

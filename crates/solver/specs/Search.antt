@@ -1,5 +1,6 @@
 -- What the calls of a solver mean. Assumes nothing.
 use Rattle.std.specs.Prelude.{◌≡◌, ℕ, ◌+◌, ◌-◌, min, Bool, true, false, cond, not, ◌&&◌, List, [], ◌∷◌, length, Some, None, Ok, Err, Option, Result, ◌≢◌, nat_le, slice_set}
+use Rattle.std.specs.List.{list_all}
 use Rattle.faults.specs.declared.SolverFault.{SolverFault}
 use Rattle.faults.specs.declared.SolverFault.TheVariants.{BadSearch, NothingKept, NoVariable}
 use Rattle.cnf.specs.Truth.{told, lit, clauses, inside, Model, Equal}
@@ -7,8 +8,7 @@ use Rattle.cnf.specs.Words.{read, well}
 
 -- whether every literal of a row is true
 abbrev pub every : (ℕ → Bool) → List ℕ → Bool
-every a [] = true
-every a (c ∷ cs) = lit a c && every a cs
+every a cs = list_all (lit a) cs
 
 -- whether a search is accepted: m within the capacity, the list well formed for m, at most 8 assumed literals, all of variables from 1 to m
 abbrev pub accepts : ℕ → ℕ → List ℕ → List ℕ → Bool

@@ -9,10 +9,5 @@ use cnf::literal::is_true;
 pub fn every_true(codes: &[u16], bits: &[bool]) -> bool
     ensures { result ≡ every (told bits.now) codes.now }
 {
-    for code in codes {
-        if !is_true(*code, bits) {
-            return false;
-        }
-    }
-    true
+    codes.iter().all(|code| is_true(*code, bits))
 }

@@ -18,8 +18,7 @@ fn implies<S: Solver>(
     ensures implied { Implied S.CAPACITY m list.now c d result }
     ensures tallied { S.tally solver.new ≤ S.tally solver.old + 1 }
 {
-    let found = solver.search(m, list, &[c, opposite(d)])?;
-    Ok(!found)
+    Ok(!solver.search(m, list, &[c, opposite(d)])?)
 }
 
 // Whether two literals are equal over a list, by at most two searches.
@@ -33,11 +32,5 @@ pub fn equal_over<S: Solver>(
     ensures compared { Compared S.CAPACITY m list.now c d result }
     ensures tallied { S.tally solver.new ≤ S.tally solver.old + 2 }
 {
-    if !implies(solver, m, list, c, d)? {
-        return Ok(false);
-    }
-    if !implies(solver, m, list, d, c)? {
-        return Ok(false);
-    }
-    Ok(true)
+    Ok(implies(solver, m, list, c, d)? && implies(solver, m, list, d, c)?)
 }

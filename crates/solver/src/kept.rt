@@ -1,22 +1,75 @@
 // What a solver keeps: an assignment, or none.
-ghost use Rattle.std.specs.Prelude.{◌≡◌, vec_len, vec_capacity};
-ghost use Rattle.solver.specs.Search.{kept_by, valued, flipped, left};
+ghost use Rattle.std.specs.Prelude.{◌≡◌, [], IfOk, None, Some};
+ghost use Rattle.solver.specs.Search.{valued, flipped, left};
+ghost use Rattle.solver.specs.Keeping.{pushed};
 
 use faults::SolverFault;
+use std::alloc::{AllocError, Global};
+use std::marker::Model;
 use words::check::well_formed;
 use words::eval::satisfied;
 
-// The bits of the variables from 1 on, which count only if they are present.
+// The bits of the variables from 1 on, which count only if they are present: their space is taken once, and stays while
+// nothing is kept.
 #[derive(Drop)]
 pub struct Kept {
-    pub bits: Vec<bool>,
-    pub present: bool,
+    bits: Vec<bool>,
+    present: bool,
+}
+
+impl Model for Kept {
+    ghost use Rattle.std.specs.Prelude.{vec_items, vec_capacity};
+    ghost use Rattle.solver.specs.Search.{kept_by};
+    ghost use Rattle.solver.specs.Keeping.{Keeping};
+
+    ghost Value = { Keeping };
+
+    ghost view = { λ k. record { room = vec_capacity k.bits; bits = kept_by k.present (vec_items k.bits) } };
 }
 
 impl Kept {
+    // Room for the bits of n variables, with nothing kept.
+    pub fn with_capacity(heap: Global, n: usize) -> Result<Kept, AllocError>
+        ensures room { IfOk result (λ k. k.room ≡ n) }
+        ensures empty { IfOk result (λ k. k.bits ≡ None) }
+    {
+        let bits = Vec::with_capacity(heap, n)?;
+        Ok(Kept {
+            bits,
+            present: false,
+        })
+    }
+
+    // Forgets what is kept.
+    pub fn clear(&mut self)
+        ensures bits { self.new.bits ≡ None }
+        ensures room { self.new.room ≡ self.old.room }
+    {
+        self.present = false;
+    }
+
+    // Keeps an assignment to no variable, which `push` makes longer.
+    pub fn start(&mut self)
+        ensures bits { self.new.bits ≡ Some [] }
+        ensures room { self.new.room ≡ self.old.room }
+    {
+        self.bits.clear();
+        self.present = true;
+    }
+
+    // Adds the bit of the next variable to what is kept, where there is room.
+    pub fn push(&mut self, bit: bool)
+        ensures bits { self.new.bits ≡ pushed self.old bit }
+        ensures room { self.new.room ≡ self.old.room }
+    {
+        if self.bits.len() < self.bits.capacity() {
+            self.bits.push_reserved(bit);
+        }
+    }
+
     // The bit of a variable.
     pub fn value(&self, v: usize) -> Result<bool, SolverFault>
-        ensures { result ≡ valued (kept_by self.now.present self.now.bits.items) v }
+        ensures { result ≡ valued self.now.bits v }
     {
         if !self.present {
             return Err(SolverFault::NothingKept);
@@ -29,10 +82,9 @@ impl Kept {
 
     // Flips the bit of a variable if the list is satisfied then, and says whether it did.
     pub fn flip(&mut self, v: usize, list: &[u16]) -> Result<bool, SolverFault>
-        ensures answer { result ≡ flipped (kept_by self.old.present self.old.bits.items) v list.now }
-        ensures after { kept_by self.new.present self.new.bits.items ≡ left (kept_by self.old.present self.old.bits.items) v result }
-        ensures len { vec_len self.new.bits ≡ vec_len self.old.bits }
-        ensures cap { vec_capacity self.new.bits ≡ vec_capacity self.old.bits }
+        ensures answer { result ≡ flipped self.old.bits v list.now }
+        ensures after { self.new.bits ≡ left self.old.bits v result }
+        ensures room { self.new.room ≡ self.old.room }
     {
         let old = self.value(v)?;
         if !well_formed(self.bits.len(), list) {

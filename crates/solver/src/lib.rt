@@ -28,6 +28,8 @@ pub trait Solver {
     fn search(&mut self, m: usize, list: &[u16], assumed: &[u16]) -> Result<bool, SolverFault>
         ensures { Searched tally kept CAPACITY m list.now assumed.now self.old self.new result };
 
+    // `value` and `flip` have no provided body: that would need a public method that lends what is kept to be changed.
+
     // The kept bit of a variable.
     fn value(&self, v: usize) -> Result<bool, SolverFault>
         ensures { result ≡ valued (kept self.now) v };

@@ -1,17 +1,10 @@
-use Rattle.std.proofs.Common.{◌≡◌, length, drop, ◌∙◌, arith}
-use Rattle.std.proofs.lemmas.List.{take_at}
-use Rattle.counting.proofs.Tries.{answered}
+use Rattle.std.proofs.Common.{◌≡◌, false, length, take, replicate, rules}
+use Rattle.counting.proofs.Tries.{answered_no}
 use Rattle.counting.proofs.find.find_model.Goals as goal
 
-pub returns : goal.returns
-returns c =
-    let bits = c.as_mut_slice.result.now in
-    let last = c.find_from-store.new.bits in
-    let store = c.loop-i.store.bits in
-    let n : length bits ≡ c.args.m = omega (arith, c.as_mut_slice.ensures.len, c.loop-i.invariant.0) in
-    let l : length last ≡ store.len = c.find_from-store.auto.bits ∙ c.as_mut_slice.ensures.len in
-    record {
-      cap = c.loop-i.invariant.1 ∙ c.clear.ensures.capacity;
-      answered = answered c.args.m c.args.list.now c.args.assumed.now bits last _ c.find_from-store.result c.requires.formed c.requires.known n (c.find_from-store.auto.bits ∙ n)
-          (take_at last (drop (length last) store.items) store.len l) c.find_from-store.ensures.tried;
-    }
+pub returns-then-not-find_from-clause-answered : goal.returns-then-not-find_from-clause-answered
+returns-then-not-find_from-clause-answered c =
+    let s = c.args.search.now in
+    let row = take s.m (replicate 20 false) in
+    let size : length row ≡ s.m = search rules in
+    answered_no s.m s.list.now s.assumed.now row c.find_from.new.bits _ s.formed s.known size c.if-not-find_from.ensures.tried c.clear.ensures.bits

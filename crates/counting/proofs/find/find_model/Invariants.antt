@@ -1,5 +1,5 @@
-use Rattle.std.proofs.Common.{◌≡◌, vec_len, vec_capacity}
+use Rattle.std.proofs.Common.{◌≡◌, take, Some}
 use Rattle.counting.proofs.find.find_model.Given as goal
 
-abbrev pub invariant-loop-i : goal.invariant-loop-i
-invariant-loop-i l = (vec_len l.store.bits ≡ l.i) × (vec_capacity l.store.bits ≡ vec_capacity l.initial.store.bits)
+abbrev pub invariant-loop-bit : goal.invariant-loop-bit
+invariant-loop-bit l = (l.kept.bits ≡ Some (take l.bit-index l.bit-items)) × (l.kept.room ≡ l.initial.kept.room)

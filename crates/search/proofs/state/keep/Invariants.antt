@@ -1,7 +1,6 @@
-use Rattle.std.proofs.Common.{◌≡◌, take, vec_items, vec_len, vec_capacity}
+use Rattle.std.proofs.Common.{◌≡◌, take, Some}
 use Rattle.search.specs.Cells.{bits}
 use Rattle.search.proofs.state.keep.Given as goal
 
-abbrev pub invariant-loop-x : goal.invariant-loop-x
-invariant-loop-x l =
-    (vec_items l.store.bits ≡ bits (take l.x-index l.cells)) × (vec_len l.store.bits ≡ l.x-index) × (vec_capacity l.store.bits ≡ vec_capacity l.initial.store.bits)
+abbrev pub invariant-loop-cell : goal.invariant-loop-cell
+invariant-loop-cell l = (l.kept.bits ≡ Some (bits (take l.cell-index l.cells))) × (l.kept.room ≡ l.initial.kept.room)

@@ -1,34 +1,15 @@
-use Rattle.std.proofs.Common.{◌+◌, length, get_or, sym, ap, ◌∙◌, subst}
-use Rattle.cnf.specs.Truth.{named}
+use Rattle.std.proofs.Common.{◌+◌, get_or, Some, sym, ap, ◌∙◌, subst}
 use Rattle.search.specs.Cells.{look}
 use Rattle.search.specs.declared.state.State.{State}
-use Rattle.search.proofs.Assuming.{Assuming, assuming_known, assuming_yes, assuming_no, assuming_open, assuming_end}
+use Rattle.search.proofs.Assuming.{Assuming, assuming_yes, assuming_no, assuming_open}
 use Rattle.search.proofs.state.State.assume.Goals as goal
-use Rattle.search.proofs.state.State.assume.Goals.{in-Yes, in-Open}
+use Rattle.search.proofs.state.State.assume.Goals.{in-Some-true, in-None}
 
-pub look_at-requires : goal.look_at-requires
-look_at-requires c =
-    ap (λ x. named (length x) (get_or c.args.assumed.now c.loop-code.code-index 0)) c.deref.ensures.value
-    ∙ assuming_known c.args.assumed.now c.args.self.now c.loop-code.self c.loop-code.code-index c.loop-code.invariant c.loop-code-test.true
-
-pub returns-in-No : goal.returns-in-No
-returns-in-No c =
-    let inv = c.loop-code.invariant in
+pub returns-in-Some-false-clause-assumed : goal.returns-in-Some-false-clause-assumed
+returns-in-Some-false-clause-assumed c =
     let w = get_or c.args.assumed.now c.loop-code.code-index 0 in
-    record {
-      grew = inv.grew;
-      sound = inv.sound;
-      assumed = assuming_no c.args.assumed.now c.args.self.now c.loop-code.self c.loop-code.code-index inv c.loop-code-test.true (c.in-No.ensures ∙ ap (λ x. look x w) c.deref.ensures.value);
-    }
-
-pub assign-requires : goal.assign-requires
-assign-requires c =
-    let w = get_or c.args.assumed.now c.loop-code.code-index 0 in
-    record {
-      sound = c.loop-code.invariant.sound;
-      known = assuming_known c.args.assumed.now c.args.self.now c.loop-code.self c.loop-code.code-index c.loop-code.invariant c.loop-code-test.true;
-      free = sym (c.in-Open.ensures ∙ ap (λ x. look x w) c.deref.ensures.value);
-    }
+    assuming_no c.args.assumed.now c.args.self.now c.loop-code.self c.loop-code.code-index c.loop-code.invariant c.loop-code-test.true
+    (ap Some (sym c.in-Some-false.field-0-test) ∙ c.in-Some-false.ensures ∙ ap (λ x. look x w) c.deref.ensures.value)
 
 pub loop-code-preserved : goal.loop-code-preserved
 loop-code-preserved c =
@@ -39,11 +20,6 @@ loop-code-preserved c =
     let w = get_or ws i 0 in
     let P : State → Type 0 = λ x. Assuming ws s x (i + 1) in
     elim c.match-look_at.branch [
-      | in-Yes y ↦ subst P (sym y.self-is) (assuming_yes ws s t i c.loop-code.invariant c.loop-code-test.true (y.in-Yes.ensures ∙ ap (λ x. look x w) c.deref.ensures.value))
-      | in-Open y ↦ let n = y.assign.ensures in subst P (sym y.self-is) (assuming_open ws s t i c.loop-code.invariant c.loop-code-test.true y.assign.new.self n.cells n.grew n.sound)
+      | in-Some-true y ↦ subst P (sym y.self-is) (assuming_yes ws s t i c.loop-code.invariant c.loop-code-test.true (ap Some (sym y.in-Some-true.field-0-test) ∙ y.in-Some-true.ensures ∙ ap (λ x. look x w) c.deref.ensures.value))
+      | in-None y ↦ let n = y.assign.ensures in subst P (sym y.self-is) (assuming_open ws s t i c.loop-code.invariant c.loop-code-test.true y.assign.new.self n.cells n.grew)
     ]
-
-pub returns : goal.returns
-returns c =
-    let inv = c.loop-code.invariant in
-    record { grew = inv.grew; sound = inv.sound; assumed = assuming_end c.args.assumed.now _ _ _ c.loop-code-test.false inv }

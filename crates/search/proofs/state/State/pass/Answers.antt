@@ -1,7 +1,6 @@
-use Rattle.std.proofs.Common.{◌≡◌, ℕ, ◌+◌, ◌-◌, Bool, true, ◌⊎◌, List, length, get_or, take, drop, ap, subst, inl, inr, arith}
+use Rattle.std.proofs.Common.{◌≡◌, ℕ, ◌+◌, ◌-◌, Bool, true, ◌⊎◌, List, length, get_or, take, drop, ap, subst, inl, inr, arith, Option}
 use Rattle.cnf.specs.Truth.{told, inside, clause}
 use Rattle.cnf.proofs.Reading.{clause_here}
-use Rattle.search.specs.declared.cell.Cell.{Cell}
 use Rattle.search.specs.declared.cell.Status.{Status}
 use Rattle.search.specs.declared.cell.Status.TheVariants.{Satisfied, Conflict, Forced, Unresolved}
 use Rattle.search.specs.Cells.{Weighed, open_count, bits}
@@ -15,16 +14,16 @@ part_is : (ws : List ℕ) (i : ℕ) → take (i + 1 + get_or ws i 0 - (i + 1)) (
 part_is ws i = let e : i + 1 + get_or ws i 0 - (i + 1) ≡ get_or ws i 0 = omega arith in ap (λ n. take n (drop (i + 1) ws)) e
 
 -- What is known of the clause, by the cells and the clause themselves.
-weighed : (cs cs' : List Cell) (ws ws' : List ℕ) (r : Status) → cs ≡ cs' → ws ≡ ws' → Weighed cs ws r → Weighed cs' ws' r
+weighed : (cs cs' : List (Option Bool)) (ws ws' : List ℕ) (r : Status) → cs ≡ cs' → ws ≡ ws' → Weighed cs ws r → Weighed cs' ws' r
 weighed cs cs' ws ws' r e f h =
-    let P : List Cell → Type 0 = λ x. Weighed x ws' r in
+    let P : List (Option Bool) → Type 0 = λ x. Weighed x ws' r in
     let Q : List ℕ → Type 0 = λ x. Weighed cs x r in
     subst P e (subst Q f h)
 
-known_at : (cs cs' : List Cell) (ws ws' : List ℕ) → cs ≡ cs' → ws ≡ ws' → inside (length cs') ws' ≡ true → inside (length cs) ws ≡ true
+known_at : (cs cs' : List (Option Bool)) (ws ws' : List ℕ) → cs ≡ cs' → ws ≡ ws' → inside (length cs') ws' ≡ true → inside (length cs) ws ≡ true
 known_at cs cs' ws ws' e f h = cc
 
-settled : (cs : List Cell) (ws : List ℕ) (r : Status) → (r ≡ Satisfied) ⊎ (r ≡ Unresolved) → Weighed cs ws r → open_count cs ≡ 0 → clause (told (bits cs)) ws ≡ true
+settled : (cs : List (Option Bool)) (ws : List ℕ) (r : Status) → (r ≡ Satisfied) ⊎ (r ≡ Unresolved) → Weighed cs ws r → open_count cs ≡ 0 → clause (told (bits cs)) ws ≡ true
 settled cs ws r (inl e) h z = let k : Weighed cs ws Satisfied = subst (Weighed cs ws) e h in k (told (bits cs)) (bits_extend cs)
 settled cs ws r (inr e) h z = let k : Weighed cs ws Unresolved = subst (Weighed cs ws) e h in absurd (omega arith)
 
@@ -38,16 +37,11 @@ weigh-requires c =
     let at = clause_here _ c.args.list.now c.loop-i.i c.loop-i-test.true c.loop-i.invariant.formed in
     known_at _ _ _ _ c.deref.ensures.value (part_is c.args.list.now c.loop-i.i) at.known
 
-pub returns-in-Conflict : goal.returns-in-Conflict
-returns-in-Conflict c =
+pub returns-in-Conflict-clause-passed : goal.returns-in-Conflict-clause-passed
+returns-in-Conflict-clause-passed c =
     let ws = c.args.list.now in
     let i = c.loop-i.i in
-    let inv = c.loop-i.invariant in
-    record {
-      grew = inv.grew;
-      sound = inv.sound;
-      passed = passing_clash ws _ _ i _ inv c.loop-i-test.true (weighed _ _ _ _ Conflict c.deref.ensures.value (part_is ws i) c.in-Conflict.ensures);
-    }
+    passing_clash ws _ _ i _ c.loop-i.invariant c.loop-i-test.true (weighed _ _ _ _ Conflict c.deref.ensures.value (part_is ws i) c.in-Conflict.ensures)
 
 pub loop-i-preserved-in-Forced : goal.loop-i-preserved-in-Forced
 loop-i-preserved-in-Forced c =
@@ -55,7 +49,7 @@ loop-i-preserved-in-Forced c =
     let i = c.loop-i.i in
     let k = weighed _ _ _ _ (Forced c.in-Forced.code) c.deref.ensures.value (part_is ws i) c.in-Forced.ensures in
     let n = c.assign.ensures in
-    passing_force ws _ _ i _ c.loop-i.invariant c.loop-i-test.true _ c.in-Forced.code k.0 k.1 k.2 n.grew n.sound n.cells
+    passing_force ws _ _ i _ c.loop-i.invariant c.loop-i-test.true _ c.in-Forced.code k.0 k.1 k.2 n.grew n.cells
 
 pub loop-i-preserved : goal.loop-i-preserved
 loop-i-preserved c =
@@ -64,9 +58,9 @@ loop-i-preserved c =
     passing_hold ws _ _ i _ c.loop-i.invariant c.loop-i-test.true
     (settled (cells_of c.loop-i.self) (clause_at ws i) c.weigh.result c.in-Satisfied.is (weighed _ _ _ _ c.weigh.result c.deref.ensures.value (part_is ws i) c.weigh.ensures))
 
-pub returns-else-moved : goal.returns-else-moved
-returns-else-moved c =
+pub returns-else-moved-clause-passed : goal.returns-else-moved-clause-passed
+returns-else-moved-clause-passed c =
     let ws = c.args.list.now in
     let P : Bool → Type 0 = Passing ws c.args.self.now c.loop-i.self c.loop-i.i in
     let inv = subst P c.if-moved.false c.loop-i.invariant in
-    record { grew = inv.grew; sound = inv.sound; passed = (inv.keeps, passing_quiet ws _ _ _ c.loop-i-test.false inv) }
+    (inv.keeps, passing_quiet ws _ _ _ c.loop-i-test.false inv)

@@ -1,13 +1,6 @@
-use Rattle.std.proofs.Common.{◌≡◌, ◌-◌, ◌≤◌, [], replicate, vec_len}
-use Rattle.search.specs.declared.cell.Cell.TheVariants.{Open}
-use Rattle.search.specs.States.{cells_of, trail_of, room_of}
+use Rattle.std.proofs.Common.{◌≡◌, [], None, replicate}
+use Rattle.search.specs.States.{cells_of, trail_of}
 use Rattle.search.proofs.state.State.reset.Given as goal
 
-abbrev pub invariant-loop-self : goal.invariant-loop-self
-invariant-loop-self l =
-    (cells_of l.self ≡ replicate (vec_len l.self.cells) Open) × (vec_len l.self.cells ≤ l.m)
-    × (trail_of l.self ≡ [])
-    × (room_of l.self ≡ room_of l.initial.self)
-
-abbrev pub decreases-loop-self : goal.decreases-loop-self
-decreases-loop-self l = l.m - vec_len l.self.cells
+abbrev pub invariant-loop : goal.invariant-loop
+invariant-loop l = (cells_of l.self ≡ replicate l.counter None) × (trail_of l.self ≡ [])

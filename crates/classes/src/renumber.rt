@@ -9,7 +9,7 @@ ghost use Rattle.classes.specs.Marks.{Marks, or, Numbered, Renumbered};
 use cnf::literal::variable;
 use words::clauses::Clauses;
 
-// Marks the variables of a clause.
+// Marks the variables of a clause. The marks are numbers, unlike a sheet's, since the new numbers take their places.
 fn mark(body: &[u16], marks: &mut [u16])
     requires { inside (length marks.old - 1) body.now ≡ true }
     ensures { (f : ℕ → Bool) → Marks f marks.old → Marks (or f (mentions body.now)) marks.new }

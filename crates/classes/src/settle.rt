@@ -76,6 +76,7 @@ pub(crate) fn recall<S: Solver>(solver: &S, names: &[u16], v: usize, bits: &mut 
     ensures cap { vec_capacity bits.new ≡ vec_capacity bits.old }
 {
     bits.clear();
+    // By index: the constant's entry is passed over, and the place says whether it is settled.
     for w in 1..names.len() {
         let code = if w < v { names[w] } else { (2 * w) as u16 };
         bits.push_reserved(look(solver, code));

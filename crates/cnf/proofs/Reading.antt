@@ -168,18 +168,3 @@ clause_at_lem ws i end h e = elim (cases_lt (length ws - i - 1) (get_or ws i 0))
           parts = read_more ws i h ∙ ap (λ x. x ∷ read (drop (i + 1 + get_or ws i 0) ws)) (take_all (get_or ws i 0) b (omega arith) ∙ sym (take_all (end - (i + 1)) b (omega arith)))
               ∙ ap (λ x. take (end - (i + 1)) b ∷ read x) (drop_all (i + 1 + get_or ws i 0) ws (omega arith) ∙ sym (drop_all end ws (omega arith)));
         }
-
--- what a well formed list has at i
-pub record ClauseHere (m : ℕ) (ws : List ℕ) (i : ℕ) : Type 0 where
-  pub fits : i + 1 + get_or ws i 0 ≤ length ws
-  pub known : inside m (take (get_or ws i 0) (drop (i + 1) ws)) ≡ true
-  pub good : well m (drop (i + 1 + get_or ws i 0) ws) ≡ true
-
-pub clause_here : (m : ℕ) (ws : List ℕ) (i : ℕ) → i < length ws → well m (drop i ws) ≡ true → ClauseHere m ws i
-clause_here m ws i h e =
-    let c = well-cons m (get_or ws i 0) (drop (i + 1) ws) (sym (ap (well m) (drop_more ws i 0 h)) ∙ e) in
-    record {
-      fits = omega (arith, c.within, length-drop (i + 1) ws);
-      known = c.known;
-      good = ap (well m) (sym (drop-drop (get_or ws i 0) (i + 1) ws)) ∙ c.rest;
-    }

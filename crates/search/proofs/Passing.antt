@@ -1,54 +1,49 @@
 -- The loop over the clauses of a list. Assumes nothing.
-use Rattle.std.proofs.Common.{◌≡◌, ℕ, ◌+◌, ◌<◌, ◌≤◌, Bool, true, false, ◌&&◌, List, length, get_or, take, drop, sym, ap, ◌∙◌, subst, arith, Option, None}
-use Rattle.std.proofs.lemmas.List.{at_drop_all}
+use Rattle.std.proofs.Common.{◌≡◌, ℕ, ◌<◌, Bool, true, false, ◌&&◌, List, [], ◌∷◌, length, sym, ap, ◌∙◌, subst, arith, Option, None}
 use Rattle.std.proofs.lemmas.Bool.{and_parts, both_ways}
-use Rattle.cnf.specs.Truth.{told, lit, clause, clauses, named}
-use Rattle.cnf.specs.Words.{read, well}
-use Rattle.cnf.proofs.Reading.{clause_here, read_more, read-nil}
+use Rattle.cnf.specs.Truth.{told, lit, clause, clauses, named, inside}
+use Rattle.cnf.specs.Words.{read, goods}
+use Rattle.cnf.proofs.Reading.{first_good}
 use Rattle.search.specs.declared.state.State.{State}
 use Rattle.search.specs.Cells.{Extends, look, assigned, open_count, bits}
 use Rattle.search.specs.States.{Grew, Keeps, Dead, Settled, cells_of}
 use Rattle.search.proofs.CellFacts.{extend_assigned, count_assigned}
 use Rattle.search.proofs.StateFacts.{grew_trans}
 
--- the literals of the clause whose count stands at i
-abbrev pub clause_at : List ℕ → ℕ → List ℕ
-clause_at ws i = take (get_or ws i 0) (drop (i + 1) ws)
+-- where nothing was forced, the clauses that are left decide; else fewer are open
+abbrev pub Progress : List ℕ → List (List ℕ) → State → State → Bool → Type 0
+Progress ws left s t true = open_count (cells_of t) < open_count (cells_of s)
+Progress ws left s t false = open_count (cells_of t) ≡ 0 → clauses (told (bits (cells_of t))) (read ws) ≡ clauses (told (bits (cells_of t))) left
 
--- where nothing was forced, what is left decides; else fewer are open
-abbrev pub Progress : List ℕ → State → State → ℕ → Bool → Type 0
-Progress ws s t i true = open_count (cells_of t) < open_count (cells_of s)
-Progress ws s t i false = open_count (cells_of t) ≡ 0 → clauses (told (bits (cells_of t))) (read ws) ≡ clauses (told (bits (cells_of t))) (read (drop i ws))
-
-pub record Passing (ws : List ℕ) (s t : State) (i : ℕ) (moved : Bool) : Type 0 where
+pub record Passing (ws : List ℕ) (left : List (List ℕ)) (s t : State) (moved : Bool) : Type 0 where
   pub grew : Grew s t
-  pub formed : well (length (cells_of t)) (drop i ws) ≡ true
+  pub formed : goods (length (cells_of t)) left ≡ true
   pub keeps : Keeps ws s t
-  pub rest : (a : ℕ → Bool) → clauses a (read ws) ≡ true → clauses a (read (drop i ws)) ≡ true
-  pub progress : Progress ws s t i moved
+  pub rest : (a : ℕ → Bool) → clauses a (read ws) ≡ true → clauses a left ≡ true
+  pub progress : Progress ws left s t moved
 
-module _ (ws : List ℕ) (s t : State) (i : ℕ) (moved : Bool) (p : Passing ws s t i moved) (b : i < length ws) where
-  clauses_more : (a : ℕ → Bool) → clauses a (read (drop i ws)) ≡ (clause a (clause_at ws i) && clauses a (read (drop (i + 1 + get_or ws i 0) ws)))
-  clauses_more a = ap (clauses a) (read_more ws i b)
+module _ (ws : List ℕ) (left : List (List ℕ)) (s t : State) (moved : Bool) (p : Passing ws left s t moved) (c : List ℕ) (next : List (List ℕ)) (e : left ≡ c ∷ next) where
+  clause_true : (a : ℕ → Bool) → clauses a (read ws) ≡ true → (clause a c ≡ true) × (clauses a next ≡ true)
+  clause_true a m = and_parts _ _ (sym (ap (clauses a) e) ∙ p.rest a m)
 
-  clause_true : (a : ℕ → Bool) → clauses a (read ws) ≡ true → (clause a (clause_at ws i) ≡ true) × (clauses a (read (drop (i + 1 + get_or ws i 0) ws)) ≡ true)
-  clause_true a m = and_parts _ _ (sym (clauses_more a) ∙ p.rest a m)
+  pub passing_known : inside (length (cells_of t)) c ≡ true
+  passing_known = (first_good _ _ _ _ e p.formed).known
 
   -- a clause fails
-  pub passing_clash : ((a : ℕ → Bool) → Extends (cells_of t) a → clause a (clause_at ws i) ≡ false) → Dead ws s
-  passing_clash f = λ a e m. both_ways (clause a (clause_at ws i)) (f a (p.keeps a e m)) (clause_true a m).0
+  pub passing_clash : ((a : ℕ → Bool) → Extends (cells_of t) a → clause a c ≡ false) → Dead ws s
+  passing_clash f = λ a x m. both_ways (clause a c) (f a (p.keeps a x m)) (clause_true a m).0
 
-  progress_hold : (v : Bool) → Progress ws s t i v → (open_count (cells_of t) ≡ 0 → clause (told (bits (cells_of t))) (clause_at ws i) ≡ true) → Progress ws s t (i + 1 + get_or ws i 0) v
+  progress_hold : (v : Bool) → Progress ws left s t v → (open_count (cells_of t) ≡ 0 → clause (told (bits (cells_of t))) c ≡ true) → Progress ws next s t v
   progress_hold true q f = q
   progress_hold false q f = λ z.
       let a = told (bits (cells_of t)) in
-      q z ∙ clauses_more a ∙ ap (λ x. x && clauses a (read (drop (i + 1 + get_or ws i 0) ws))) (f z)
+      q z ∙ ap (clauses a) e ∙ ap (λ x. x && clauses a next) (f z)
 
   -- a clause holds, or has open literals
-  pub passing_hold : (open_count (cells_of t) ≡ 0 → clause (told (bits (cells_of t))) (clause_at ws i) ≡ true) → Passing ws s t (i + 1 + get_or ws i 0) moved
+  pub passing_hold : (open_count (cells_of t) ≡ 0 → clause (told (bits (cells_of t))) c ≡ true) → Passing ws next s t moved
   passing_hold f = record {
     grew = p.grew;
-    formed = (clause_here (length (cells_of t)) ws i b p.formed).good;
+    formed = (first_good _ _ _ _ e p.formed).rest;
     keeps = p.keeps;
     rest = λ a m. (clause_true a m).1;
     progress = progress_hold moved p.progress f;
@@ -56,20 +51,18 @@ module _ (ws : List ℕ) (s t : State) (i : ℕ) (moved : Bool) (p : Passing ws 
 
   -- a clause forces a literal
   pub passing_force : (u : State) (w : ℕ) → named (length (cells_of t)) w ≡ true → look (cells_of t) w ≡ None
-      → ((a : ℕ → Bool) → Extends (cells_of t) a → clause a (clause_at ws i) ≡ lit a w) → Grew t u → cells_of u ≡ assigned (cells_of t) w
-      → Passing ws s u (i + 1 + get_or ws i 0) true
+      → ((a : ℕ → Bool) → Extends (cells_of t) a → clause a c ≡ lit a w) → Grew t u → cells_of u ≡ assigned (cells_of t) w
+      → Passing ws next s u true
   passing_force u w n o f g cs = record {
     grew = grew_trans s t u p.grew g;
-    formed = ap (λ k. well k (drop (i + 1 + get_or ws i 0) ws)) g.size ∙ (clause_here (length (cells_of t)) ws i b p.formed).good;
-    keeps = λ a e m.
-        let x = p.keeps a e m in
-        let P : List (Option Bool) → Type 0 = λ c. Extends c a in
-        subst P (sym cs) (extend_assigned (cells_of t) w a n (sym (f a x) ∙ (clause_true a m).0) x);
+    formed = ap (λ k. goods k next) g.size ∙ (first_good _ _ _ _ e p.formed).rest;
+    keeps = λ a x m.
+        let y = p.keeps a x m in
+        let P : List (Option Bool) → Type 0 = λ xs. Extends xs a in
+        subst P (sym cs) (extend_assigned (cells_of t) w a n (sym (f a y) ∙ (clause_true a m).0) y);
     rest = λ a m. (clause_true a m).1;
     progress = omega (arith, p.grew.fewer, ap open_count cs, count_assigned (cells_of t) w n o);
   }
 
-pub passing_quiet : (ws : List ℕ) (s t : State) (i : ℕ) → length ws ≤ i → Passing ws s t i false → Settled ws t
-passing_quiet ws s t i h p = λ z.
-    let a = told (bits (cells_of t)) in
-    p.progress z ∙ at_drop_all (λ xs. clauses a (read xs)) ws i h ∙ ap (clauses a) read-nil
+pub passing_quiet : (ws : List ℕ) (left : List (List ℕ)) (s t : State) → left ≡ [] → Passing ws left s t false → Settled ws t
+passing_quiet ws left s t e p = λ z. p.progress z ∙ ap (clauses (told (bits (cells_of t)))) e

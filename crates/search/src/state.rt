@@ -9,6 +9,7 @@ use crate::cell::{Status, first_open, look_at, weigh};
 use cnf::literal::opposite;
 use solver::accept::Accepted;
 use solver::kept::Kept;
+use words::clauses::Clauses;
 
 // The cell of the variable v is at the place v - 1. The spaces are taken for the largest search: the trail holds places of
 // cells, and has room for every variable that is open.
@@ -70,10 +71,8 @@ impl State {
         ensures passed { Passed list.now self.old self.new result }
     {
         let mut moved = false;
-        let mut i = 0;
-        while i < list.len() {
-            let end = i + 1 + list[i] as usize;
-            match weigh(&self.cells, &list[i + 1..end]) {
+        for clause in Clauses(list) {
+            match weigh(&self.cells, clause) {
                 Status::Conflict => return Pass::Refuted,
                 Status::Forced(code) => {
                     self.assign(code);
@@ -81,7 +80,6 @@ impl State {
                 }
                 Status::Satisfied | Status::Unresolved => {}
             }
-            i = end;
         }
         if moved { Pass::Moved } else { Pass::Quiet }
     }

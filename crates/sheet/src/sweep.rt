@@ -15,7 +15,7 @@ use propagation::propagate::rewrite;
 use solver::Solver;
 use std::mem::swap;
 
-// Lets each variable stand for itself.
+// Lets each variable stand for itself. Not `own_entries`, which makes a new table and so needs memory.
 fn reset(entries: &mut [u16])
     requires { length entries.old ≤ 2001 }
     ensures { EachIndex entries.new (λ v. slice_index entries.new v ≡ 2 * v) }

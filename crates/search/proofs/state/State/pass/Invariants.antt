@@ -1,9 +1,6 @@
-use Rattle.std.proofs.Common.{◌-◌, length}
+use Rattle.cnf.specs.Words.{read}
 use Rattle.search.proofs.Passing.{Passing}
 use Rattle.search.proofs.state.State.pass.Given as goal
 
-abbrev pub invariant-loop-i : goal.invariant-loop-i
-invariant-loop-i l = Passing l.list l.initial.self l.self l.i l.moved
-
-abbrev pub decreases-loop-i : goal.decreases-loop-i
-decreases-loop-i l = length l.list - l.i
+abbrev pub invariant-loop-clause : goal.invariant-loop-clause
+invariant-loop-clause l = Passing l.list (read l.clause-iterator.0.now) l.initial.self l.self l.moved

@@ -57,6 +57,8 @@ broken_push : (cs : List (List ℕ)) (c : ℕ) (d : List ℕ) → broken (cs ++ 
 broken_push [] c d = refl
 broken_push ([] ∷ cs) c d = refl
 broken_push ((e ∷ es) ∷ cs) c d = broken_push cs c d
+
+pub sound_joined : (s : State) (c : ℕ) (d : List ℕ) → Sound s → Storable s (c ∷ d) → used (joined s (Some (c ∷ d))) ≤ s.space → Sound (joined s (Some (c ∷ d)))
 sound_joined s c d w h l = record {
   few = w.few;
   size = w.size;

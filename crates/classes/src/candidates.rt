@@ -92,6 +92,7 @@ impl Candidates {
             return false;
         }
         start(solver, m, &mut self.names);
+        // the list shrinks in place, at the front of the space that is lent
         let mut left = work.len();
         for v in 1..m + 1 {
             left = self.settle(solver, v, &mut work[..left]);

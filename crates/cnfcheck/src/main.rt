@@ -6,10 +6,11 @@ use anyhow::anyhow;
 use cnf::limits::MAX_WORDS;
 use dimacs::error::ReadError;
 use dimacs::formula::Formula;
+use report::write::{LINE, write_refusal};
 use search::SearchSolver;
 use solver::Solver;
 use std::env;
-use std::io::Read;
+use std::io::{Read, Write};
 
 // One byte more than a text may have, so that a text that is too long is seen to be so.
 const MOST_BYTES: u64 = 60_001;
@@ -65,9 +66,11 @@ fn run(rt: &HostRuntime) -> anyhow::Result<()> {
             Ok(())
         }
         Err(ReadError::Refused(at)) => {
-            let line = at.line;
-            let number = at.fault.number();
-            println!(rt; "{line:>6}{:>6}{number:>6}", 4)?;
+            let mut line = [0; LINE];
+            match write_refusal(at, &mut line) {
+                Ok(_) => rt.stdout().write_all(&line)?,
+                Err(_) => unreachable!(),
+            }
             Ok(())
         }
         Err(ReadError::Memory) => Err(anyhow!("out of memory")),

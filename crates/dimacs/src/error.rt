@@ -1,4 +1,5 @@
-// Why a reading gives nothing.
+// Why a reading gives nothing. Not one generic error for this and for opening a table: their callers match on different
+// faults, and each contract names its own.
 ghost use Rattle.std.specs.Prelude.{◌≡◌};
 ghost use Rattle.dimacs.specs.declared.error.ReadError.TheVariants.{Memory};
 

@@ -6,7 +6,7 @@ use cnf::kind::Kind;
 use faults::{Located, SheetFault};
 
 // The bytes of a line.
-const LINE: usize = 19;
+pub const LINE: usize = 19;
 
 // Writes a report of one line.
 fn write_line(bytes: [u8; 19], out: &mut [u8]) -> Result<usize, SheetFault>

@@ -7,7 +7,8 @@ pub struct Counts {
     pub tied: usize,
 }
 
-// Contradiction: no assignment satisfies the clauses.
+// Contradiction: no assignment satisfies the clauses. That is an answer of its own, which the `None` of an `Option` would
+// not say.
 #[derive(Clone, Copy, PartialEq, Eq, Debug)]
 pub enum Outcome {
     Contradiction,

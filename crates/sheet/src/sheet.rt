@@ -9,7 +9,8 @@ use classes::scratch::Scratch;
 // The table has an entry for the constant and one for each net; the words are the store, of whose
 // space `space` words count; a net waits if its mark is set.
 // The other spaces serve sweeps and questions: the table to come, the new representative of each
-// variable, the bits of an assignment, and what the sweep of a set works in.
+// variable, the bits of an assignment, and what the sweep of a set works in. Each is lent as a whole
+// to functions over tables, bits or marks, so they are no vector of records.
 #[derive(Drop)]
 pub struct Sheet {
     pub(crate) table: Vec<u16>,

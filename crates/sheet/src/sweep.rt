@@ -49,6 +49,7 @@ fn count(before: &[u16], after: &[u16]) -> Counts
 
 impl Sheet {
     // Takes over the new representatives of a set of stored clauses, or that the set has no model.
+    // A flag and no `Option` of the entries, since these lie in the sheet's own space.
     fn take_over(&mut self, found: bool) -> Outcome
         requires { Ready (state_of self.old) self.old.news.items found }
         ensures state { state_of self.new ≡ landed (state_of self.old) (if found

@@ -25,8 +25,7 @@ fn byte_at(negative: bool, number: usize, worth: usize) -> u8
     }
 }
 
-// A number in its six columns. The sign stands apart from it, as in the bytes: of a signed number it would be taken
-// apart again at each place.
+// A number in its six columns. Its sign is a parameter of its own, since each place writes the digits without it.
 fn column(negative: bool, number: usize) -> [u8; 6]
     ensures { result ≡ column_of negative number }
 {

@@ -64,8 +64,8 @@ impl State {
         }
     }
 
-    // Goes once over the list, and makes true what a clause forces. That the list is well formed is asked here and below,
-    // since it is so for the variables that the cells stand for.
+    // Goes once over the list, and makes true what a clause forces. Like the methods below it asks for a list that is well
+    // formed for as many variables as there are cells, which no type of the list alone can say.
     pub(crate) fn pass(&mut self, list: &[u16]) -> Pass
         requires formed { well (length (cells_of self.old)) list.now ≡ true }
         ensures grew { Grew self.old self.new }

@@ -15,8 +15,8 @@ use std::alloc::Global;
 use words::apply::apply_all;
 
 // `names` has an entry for the constant and one for each variable of the sweep: the literal that names its class. The
-// other two are always of full length, so that no sweep has to fill them again: `split` has what names the part that a
-// model splits off, and `spare` is the table that replaces one variable, and plain otherwise. The bits are of a model.
+// other two keep their full length, so that no sweep has to make them anew: `split` has what names the part that a model
+// splits off, and `spare` is the table that replaces one variable, and plain otherwise. The bits are of a model.
 // There is room for as many variables as a sheet has nets at most, so no sweep allocates.
 #[derive(Drop)]
 pub(crate) struct Candidates {

@@ -19,6 +19,7 @@ pub(crate) fn refine(table: &mut [u16], split: &mut [u16], bits: &[bool])
         let old = *name;
         if is_true((2 * w) as u16, bits) != is_true(old, bits) {
             let r = variable(old);
+            // 0 where nothing is split off yet: a table of literals, and the constant's is never one that is split off
             if split[r] == 0 {
                 split[r] = (2 * w) as u16 + old % 2;
             }

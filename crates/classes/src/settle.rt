@@ -59,6 +59,7 @@ pub(crate) fn start<S: Solver>(solver: &S, m: usize, names: &mut Vec<u16>)
     ensures named { (w : ℕ) → w < length names.new.items → slice_index names.new.items w ≡ (if held (S.kept solver.now) w then 1 else 0) }
 {
     names.clear();
+    // pushed one by one, since the contract of `extend` lets it allocate
     for v in 0..m + 1 {
         names.push_reserved(look(solver, (2 * v) as u16) as u16);
     }

@@ -14,6 +14,7 @@ pub fn propagate(table: &mut [u16], words: &mut [u16]) -> Option<usize>
     ensures { encode (read words.old) ≡ words.old → Leaves (propagated table.old (read words.old)) table.new words.new result }
 {
     let mut used = words.len();
+    // Counted turns: where the words are no clause list, nothing else shows that this ends.
     for _turn in 0..words.len() {
         match next_pending(&words[0..used]) {
             Pending::Nothing => return Some(used),

@@ -54,6 +54,7 @@ pub fn line(first: usize, second: usize, negative: bool, third: usize) -> [u8; 1
 pub fn kind_line(v: usize, kind: Kind) -> [u8; 19]
     ensures { result ≡ kind_line v kind }
 {
+    // the second number is the kind's in the format
     match kind {
         Kind::Free => line(v, 0, false, v),
         Kind::Fixed(bit) => line(v, 1, false, bit as usize),

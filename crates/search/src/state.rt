@@ -149,6 +149,7 @@ impl State {
     {
         self.trail.clear();
         self.cells.clear();
+        // pushed one by one, since the contract of `extend` lets it allocate
         for _ in 0..m {
             self.cells.push_reserved(None);
         }

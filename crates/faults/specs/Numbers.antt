@@ -1,5 +1,5 @@
 -- Every fault's part and number; a located fault has its line beside it. Assumes nothing.
-use Rattle.std.specs.Prelude.{ℕ}
+use Rattle.std.specs.Prelude.{ℕ, List, codes as bytes}
 use Rattle.faults.specs.declared.ReaderFault.TheVariants.{TextTooLong, HeaderForm, MalformedNumber, HeaderLimit, ClauseCount}
 use Rattle.faults.specs.declared.SheetFault.TheVariants.{NoSuchVariable, TooManyLiterals, StoreFull, Contradictory, TooManyNets, Radius, Capacity, SpaceShort}
 use Rattle.faults.specs.declared.SolverFault.TheVariants.{BadSearch, NothingKept, NoVariable}
@@ -35,3 +35,10 @@ part_of (Reader f) = OfReader
 part_of (Sheet f) = OfSheet
 part_of (Solver f) = OfSolver
 part_of (Names f) = OfNames
+
+-- the word by which a part is printed
+abbrev pub name_of : Part → List ℕ
+name_of OfReader = bytes "reader"
+name_of OfSheet = bytes "sheet"
+name_of OfSolver = bytes "solver"
+name_of OfNames = bytes "names"

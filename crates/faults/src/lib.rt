@@ -1,8 +1,8 @@
 // Why a call is turned down: one enum for each part that can refuse, and one fault around them.
 #![tactic(auto)]
 
-ghost use Rattle.std.specs.Prelude.{◌≡◌};
-ghost use Rattle.faults.specs.Numbers.{number_of, part_of};
+ghost use Rattle.std.specs.Prelude.{◌≡◌, Some};
+ghost use Rattle.faults.specs.Numbers.{number_of, part_of, name_of};
 ghost use Rattle.faults.specs.declared.Fault.TheVariants.{Reader, Sheet, Solver, Names};
 
 use std::fmt;
@@ -54,6 +54,8 @@ pub enum Part {
 }
 
 impl fmt::Display for Part {
+    ghost output = { λ p. Some (name_of p) };
+
     fn fmt<W: fmt::Write>(&self, f: &mut fmt::Formatter<W>) -> fmt::Result {
         f.write_str(match self {
             Part::OfReader => "reader",

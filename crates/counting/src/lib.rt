@@ -1,7 +1,7 @@
 // A solver that tries every assignment in turn: slow, and plain enough to hold the others to.
 #![tactic(auto)]
 
-ghost use Rattle.std.specs.Prelude.{◌≡◌, ◌≤◌, IfOk, None};
+ghost use Rattle.std.specs.Prelude.{◌≡◌, IfOk, None};
 ghost use Rattle.std.proofs.Common.{rules};
 
 mod find;
@@ -20,7 +20,7 @@ use std::alloc::{AllocError, Global};
 pub struct CountingSolver {
     kept: Kept,
     tally: u32,
-    ghost room: { 20 ≤ kept.room },
+    ghost room: { kept.room ≡ 20 },
 }
 
 impl CountingSolver {

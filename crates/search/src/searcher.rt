@@ -1,5 +1,5 @@
 // The solver by search, and what it keeps.
-ghost use Rattle.std.specs.Prelude.{◌≤◌};
+ghost use Rattle.std.specs.Prelude.{◌≡◌};
 
 use crate::state::State;
 use solver::kept::Kept;
@@ -10,5 +10,5 @@ pub struct SearchSolver {
     pub(crate) state: State,
     pub(crate) kept: Kept,
     pub(crate) tally: u32,
-    ghost room: { 2000 ≤ kept.room },
+    ghost room: { kept.room ≡ 2000 },
 }

@@ -11,14 +11,14 @@ use solver::accept::Accepted;
 use solver::kept::Kept;
 use words::clauses::Clauses;
 
-// The cell of the variable v is at the place v - 1. The spaces are taken for the largest search: the trail holds places of
-// cells, and has room for every variable that is open.
+// The cell of the variable v is at the place v - 1. The spaces are taken once, for the largest search, and stay: so a search
+// takes no memory. The trail holds places of cells, and has room for every variable that is open.
 #[derive(Drop)]
 pub(crate) struct State {
     pub(crate) cells: Vec<Option<bool>>,
     pub(crate) trail: Vec<u16>,
-    ghost cells_room: { 2000 ≤ vec_capacity cells },
-    ghost trail_room: { 2000 ≤ vec_capacity trail },
+    ghost cells_room: { vec_capacity cells ≡ 2000 },
+    ghost trail_room: { vec_capacity trail ≡ 2000 },
     ghost small: { length cells.items ≤ 2000 },
     ghost spare: { vec_len trail + open_count cells.items ≤ 2000 },
     ghost places: { All (λ i. i < length cells.items) trail.items },

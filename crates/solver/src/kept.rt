@@ -1,6 +1,6 @@
 // What a solver keeps: an assignment, or none.
-ghost use Rattle.std.specs.Prelude.{◌≡◌, [], IfOk, None, Some};
-ghost use Rattle.solver.specs.Search.{valued, flipped, left};
+ghost use Rattle.std.specs.Prelude.{◌≡◌, [], length, vec_capacity, IfOk, IfSome, MatchOption, None, Some};
+ghost use Rattle.solver.specs.Search.{kept_by, valued, flipped, left};
 ghost use Rattle.solver.specs.Keeping.{pushed};
 
 use faults::SolverFault;
@@ -24,7 +24,7 @@ impl Model for Kept {
 
     ghost Value = { Keeping };
 
-    ghost view = { λ k. record { room = vec_capacity k.bits; bits = kept_by k.present (vec_items k.bits) } };
+    ghost view = { λ k. record { room = vec_capacity k.bits; bits = kept_by k.present (vec_items k.bits); lying = vec_items k.bits } };
 }
 
 impl Kept {
@@ -33,16 +33,40 @@ impl Kept {
         ensures room { IfOk result (λ k. k.room ≡ n) }
         ensures empty { IfOk result (λ k. k.bits ≡ None) }
     {
-        let bits = Vec::with_capacity(heap, n)?;
-        Ok(Kept {
-            bits,
-            present: false,
-        })
+        Ok(Kept::new(Vec::with_capacity(heap, n)?, false))
+    }
+
+    // Takes a row for the space. Its bits are kept if they are present, and else lie there and do not count.
+    pub fn new(bits: Vec<bool>, present: bool) -> Kept
+        ensures bits { result.bits ≡ kept_by present bits.items }
+        ensures lying { result.lying ≡ bits.items }
+        ensures room { result.room ≡ vec_capacity bits }
+    {
+        Kept { bits, present }
+    }
+
+    // Gives the space back, with the bits that lie in it.
+    pub fn into_bits(self) -> Vec<bool>
+        ensures kept { IfSome self.bits (λ bits. result.items ≡ bits) }
+        ensures lying { result.items ≡ self.lying }
+        ensures room { vec_capacity result ≡ self.room }
+    {
+        let Kept { bits, present: _ } = self;
+        bits
+    }
+
+    // The bits that are kept, if any are.
+    pub fn bits(&self) -> Option<&[bool]>
+        ensures kept { MatchOption result (self.now.bits ≡ None) (λ bits. self.now.bits ≡ Some bits.now) }
+        ensures lying { IfSome result (λ bits. self.now.lying ≡ bits.now) }
+    {
+        if self.present { Some(&self.bits) } else { None }
     }
 
     // Forgets what is kept.
     pub fn clear(&mut self)
         ensures bits { self.new.bits ≡ None }
+        ensures lying { self.new.lying ≡ self.old.lying }
         ensures room { self.new.room ≡ self.old.room }
     {
         self.present = false;
@@ -81,9 +105,11 @@ impl Kept {
     }
 
     // Flips the bit of a variable if the list is satisfied then, and says whether it did.
+    #[tactic(auto, using(crate::proofs::Keeping::unflipped))]
     pub fn flip(&mut self, v: usize, list: &[u16]) -> Result<bool, SolverFault>
         ensures answer { result ≡ flipped self.old.bits v list.now }
         ensures after { self.new.bits ≡ left self.old.bits v result }
+        ensures len { length self.new.lying ≡ length self.old.lying }
         ensures room { self.new.room ≡ self.old.room }
     {
         let old = self.value(v)?;

@@ -1,15 +1,16 @@
 -- The header line, and what is kept behind it. Assumes nothing.
-use Rattle.std.proofs.Common.{◌≡◌, ℕ, ◌+◌, false, cond, List, [], ◌∷◌, length, None, Some, Ok, Err, vec_items, Result, sym, refl, ap, ◌∙◌, subst}
+use Rattle.std.proofs.Common.{◌≡◌, ℕ, ◌+◌, false, cond, List, [], ◌∷◌, length, None, Some, Ok, Err, vec_items, Result, sym, refl, ap, ◌∙◌}
 use Rattle.faults.specs.declared.Located.{Located}
 use Rattle.cnf.specs.Words.{read}
 use Rattle.cnf.proofs.Reading.{read-nil}
 use Rattle.dimacs.specs.declared.clauses.Clauses.{Clauses}
 use Rattle.dimacs.specs.declared.error.ReadError.{ReadError}
+use Rattle.dimacs.specs.declared.error.ReadError.TheVariants.{Memory, Refused}
 use Rattle.dimacs.specs.declared.problem.Problem.{Problem}
 use Rattle.dimacs.specs.declared.reader.Reader.{Reader}
 use Rattle.dimacs.specs.Numbers.{is_comment}
 use Rattle.dimacs.specs.Text.{Placed, placed, plain, tokens, codes, is_end, closed, finished, ended, body, headed}
-use Rattle.dimacs.specs.Progress.{done, ended_from, numbers_say, lines_say, Faults, Headed, Goes, Halts}
+use Rattle.dimacs.specs.Progress.{done, ended_from, numbers_say, lines_say, Headed, Goes, Halts}
 use Rattle.dimacs.proofs.Cutting.{glue-none}
 
 -- nothing is kept yet
@@ -40,7 +41,5 @@ module _ (r : Reader) (l : List ℕ) (before : r.clauses ≡ None) (first : is_c
   }
 
   pub headed_halts : (e : ReadError) → Headed (r.line + 1) l (Err e) → Halts r l e
-  headed_halts e h = record {
-    faults = λ space end ls.
-        subst (λ a. Faults a e) (sym (means_is space end ls)) (h (λ p. body p space end (plain (r.line + 1 + 1) ls)));
-  }
+  headed_halts Memory h = absurd h
+  headed_halts (Refused k) h = record { faults = λ space end ls. means_is space end ls ∙ h (λ p. body p space end (plain (r.line + 1 + 1) ls)) }

@@ -57,10 +57,11 @@ pub record Reads (s : Clauses) (ts : List Placed) (t : Clauses) : Type 0 where
 pub record Stops (s : Clauses) (ts : List Placed) (e : ReadError) : Type 0 where
   pub faults : (space end : ℕ) (more : List Placed) → Faults (numbers_say s space end (ts ++ more)) e
 
--- the header line was read, or refused
+-- the header line was read, or refused, neither of which takes memory
 abbrev pub Headed : ℕ → List ℕ → Result Problem ReadError → Type 0
 Headed line text (Ok p) = (rest : Problem → Answer) → limited line (header_of text) rest ≡ rest p
-Headed line text (Err e) = (rest : Problem → Answer) → Faults (limited line (header_of text) rest) e
+Headed line text (Err Memory) = ⊥
+Headed line text (Err (Refused l)) = (rest : Problem → Answer) → limited line (header_of text) rest ≡ Err l
 
 -- a line was read, whatever follows it
 pub record Goes (r : Reader) (l : List ℕ) (q : Reader) : Type 0 where

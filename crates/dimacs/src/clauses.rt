@@ -69,7 +69,9 @@ impl Clauses {
         ensures err { IfErr result (λ e. e ≡ ReadError.Memory) }
     {
         let len = self.current.len();
-        // Room for the whole clause comes first, so that no count is left without its literals.
+        // Room for the whole clause comes first, so that no count is left without its literals; and for a word alone before
+        // it, so that a full space doubles whatever the clause's length.
+        self.words.reserve(1)?;
         self.words.reserve(len + 1)?;
         self.words.push(len as u16).unwrap();
         self.words.extend_from_slice(&self.current).unwrap();

@@ -9,7 +9,7 @@ overflow_add-self c = let s = c.args.self.now in omega (arith, read-length s.pro
 pub invariant_of-self-2 : goal.invariant_of-self-2
 invariant_of-self-2 c =
     let s = c.args.self.now in
-    let v = pushed s.words.items _ _ _ s.current.items _ c.len-len.result c.in_ok-reserve.ensures.items (rw c.unwrap.ensures at c.push.ensures.items)
+    let v = pushed s.words.items _ _ _ s.current.items _ c.len-len.result (c.in_ok-reserve-2.ensures.items ∙ c.in_ok-reserve.ensures.items) (rw c.unwrap.ensures at c.push.ensures.items)
     (rw c.unwrap-2.ensures at c.extend_from_slice.ensures.items) c.deref.ensures.value (c.len-len.ensures ∙ s.current.ok.0) in
     record {
       few = s.few;
@@ -23,5 +23,5 @@ pub returns-clause-closed : goal.returns-clause-closed
 returns-clause-closed c =
     let s = c.args.self.now in
     read_push s.problem.nets s.words.items s.current.items _ s.form
-    (pushed s.words.items _ _ _ s.current.items _ c.len-len.result c.in_ok-reserve.ensures.items (rw c.unwrap.ensures at c.push.ensures.items)
+    (pushed s.words.items _ _ _ s.current.items _ c.len-len.result (c.in_ok-reserve-2.ensures.items ∙ c.in_ok-reserve.ensures.items) (rw c.unwrap.ensures at c.push.ensures.items)
     (rw c.unwrap-2.ensures at c.extend_from_slice.ensures.items) c.deref.ensures.value (c.len-len.ensures ∙ s.current.ok.0))

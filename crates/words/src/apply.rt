@@ -12,7 +12,8 @@ use cnf::table::representative;
 pub fn has_code(codes: &[u16], code: u16) -> bool
     ensures { result ≡ has codes.now code }
 {
-    codes.contains(&code)
+    // not `contains`, which goes on to the end of a row of sixteen
+    codes.iter().any(|x| *x == code)
 }
 
 // Replaces each literal of the clause by its representative and says how many literals are left, at the front of it.

@@ -7,8 +7,8 @@ use Rattle.words.proofs.check.well_formed.Goals as goal
 pub returns-then-count-gt-MAX_LITERALS : goal.returns-then-count-gt-MAX_LITERALS
 returns-then-count-gt-MAX_LITERALS c =
     let over : well c.args.m (c.in-Some.count.now ∷ c.in-Some.body.now) ≡ false = elim c.then-count-gt-MAX_LITERALS.either [
-      | inl l ↦ well_long c.args.m c.in-Some.count.now c.in-Some.body.now l
-      | inr h ↦ well_less c.args.m c.in-Some.count.now c.in-Some.body.now h.1
+      | inl l ↦ well_long c.args.m c.in-Some.count.now c.in-Some.body.now (omega (arith, l))
+      | inr h ↦ well_less c.args.m c.in-Some.count.now c.in-Some.body.now (omega (arith, h.1))
     ] in
     sym (sym c.loop-count.invariant ∙ ap (well c.args.m) c.in-Some.ensures.cases.0 ∙ over)
 

@@ -20,7 +20,7 @@ pub record Refining (bits : List Bool) (t u f : List ℕ) (i : ℕ) : Type 0 whe
   pub split : (k : ℕ) → k < length t → (get_or f k 0 ≡ 0 → ⊥)
       → (get_or f k 0 / 2 < i) × (agrees bits t (get_or f k 0 / 2) ≡ false) × (get_or u (get_or f k 0 / 2) 0 ≡ 2 * (get_or f k 0 / 2))
 
-pub refining_none : (bits : List Bool) (t f : List ℕ) → length t ≤ length f → ((k : ℕ) → k < length f → get_or f k 0 ≡ 0) → Refining bits t t f 0
+pub refining_none : (bits : List Bool) (t f : List ℕ) → length t ≤ length f → ((k : ℕ) → k < length t → get_or f k 0 ≡ 0) → Refining bits t t f 0
 refining_none bits t f e h = record {
   long = refl;
   wide = e;

@@ -14,7 +14,8 @@ pub(crate) fn refine(table: &mut [u16], split: &mut [u16], bits: &[bool])
     requires tabled { Tabled table.old }
     ensures { Refines bits.now table.old table.new split.new }
 {
-    split.fill(0);
+    // no more than the table needs, since the part may lie in a longer row
+    split[..table.len()].fill(0);
     for (w, name) in table.iter_mut().enumerate() {
         let old = *name;
         if is_true((2 * w) as u16, bits) != is_true(old, bits) {

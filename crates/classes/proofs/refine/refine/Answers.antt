@@ -1,6 +1,6 @@
-use Rattle.std.proofs.Common.{◌≡◌, ◌<◌, true, false, length, arith}
+use Rattle.std.proofs.Common.{◌≡◌, ℕ, ◌<◌, true, false, List, ◌++◌, length, drop, ◌∙◌, arith}
 use Rattle.cnf.proofs.Entries.{entries_from_tabled}
-use Rattle.std.proofs.lemmas.List.{set-get_or}
+use Rattle.std.proofs.lemmas.List.{set-get_or, get_or_append_left, length-append, length-take-le}
 use Rattle.classes.specs.Classes.{agrees}
 use Rattle.classes.proofs.Making.{cleared}
 use Rattle.classes.proofs.Refining.{refining_keep, name_within, agrees_not, agrees_still, move_by, mint_by, refining_all, refining_none}
@@ -14,7 +14,13 @@ pub bounds-split-r-then-split-r-eq0 : goal.bounds-split-r-then-split-r-eq0
 bounds-split-r-then-split-r-eq0 c = name_within _ _ _ _ _ c.loop-w.invariant (entries_from_tabled _ c.requires.tabled) _ c.variable-r.ensures (omega arith)
 
 pub loop-w-init : goal.loop-w-init
-loop-w-init c = refining_none _ c.args.table.now c.fill.new.self (omega arith) (λ k h. cleared _ _ (c.fill.ensures.after (λ _ e. e)) k)
+loop-w-init c =
+    let n : ℕ = length c.args.table.now in
+    let front : List ℕ = c.fill.new.self in
+    let behind : List ℕ = drop n c.args.split.now in
+    let size : length front ≡ n = c.fill.auto.self ∙ length-take-le n c.args.split.now c.requires.parts in
+    refining_none _ c.args.table.now (front ++ behind) (omega (arith, size, length-append front behind))
+    (λ k h. get_or_append_left front behind 0 k (omega (arith, size)) ∙ cleared front _ (c.fill.ensures.after (λ _ e. e)) k)
 
 pub loop-w-preserved : goal.loop-w-preserved
 loop-w-preserved c =

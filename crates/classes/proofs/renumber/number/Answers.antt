@@ -22,7 +22,7 @@ bounds-old-m c = numbering_room _ _ _ _ _ _ c.loop-v.invariant (omega arith) c.i
 
 pub loop-v-preserved : goal.loop-v-preserved
 loop-v-preserved c = elim c.if-mark-eq1.branch [
-  | then-mark-eq1 w ↦ rw (w.rank-is, w.old-is, w.m-is) (numbering_more _ _ _ _ _ _ c.loop-v.invariant (omega arith) w.if-mark-eq1.true _ _ refl refl)
+  | then-mark-eq1 w ↦ rw (w.rank-is, w.old-is, w.m-is) (numbering_more _ _ _ _ _ _ c.loop-v.invariant (omega arith) w.if-mark-eq1.true _ _ (omega arith) (omega arith))
   | else-mark-eq1 w ↦ rw (w.rank-is, set-get_or c.loop-v.rank c.loop-v.v 0, w.old-is, w.m-is)
       (numbering_skip _ _ _ _ _ _ c.loop-v.invariant (omega arith) (get_or-set_same c.args.old.now 0 0 0 (omega arith)) w.if-mark-eq1.false)
 ]

@@ -14,8 +14,8 @@ use Rattle.classes.proofs.candidates.Candidates.settle.Goals as goal
 pub returns-then-old-own-clause-step : goal.returns-then-old-own-clause-step
 returns-then-old-own-clause-step g c =
     let all = take_all (length c.args.list.now) c.args.list.now (omega arith) in
-    let own : get_or c.args.self.now.names.items c.args.v 0 ≡ 2 * c.args.v
-    = sym (get_or_read_under c.args.self.now.names.items c.args.v _ _ 0 c.index-old.ensures c.requires.known c.args.self.now.names.ok.0) ∙ c.if-old-own.true in
+    let old = get_or_read_under c.args.self.now.names.items c.args.v _ _ 0 c.index-old.ensures c.requires.known c.args.self.now.names.ok.0 in
+    let own : get_or c.args.self.now.names.items c.args.v 0 ≡ 2 * c.args.v = omega (arith, old, c.if-old-own.true) in
     λ cs s. subst (λ xs. Sweeping cs c.args.self.now.names.items (c.args.v + 1) (read xs)) (sym all) (keep cs _ _ _ s own)
 
 pub differ-requires-clause-lower : goal.differ-requires-clause-lower

@@ -7,7 +7,6 @@ ghost use Rattle.sheet.specs.Laws.{Adds};
 
 use crate::Sheet;
 use crate::store::{append, join, join_all};
-use arrayvec::ArrayVec;
 use cnf::limits::MAX_LITERALS;
 use faults::SheetFault;
 use words::apply::apply;
@@ -62,18 +61,19 @@ impl Sheet {
         if self.is_contradictory() {
             return Err(SheetFault::Contradictory);
         }
-        let Ok(mut body) = ArrayVec::<u16, MAX_LITERALS>::try_from(clause) else {
+        if clause.len() > MAX_LITERALS {
             return Err(SheetFault::TooManyLiterals);
-        };
+        }
         if !all_named(self.nets(), clause) {
             return Err(SheetFault::NoSuchVariable);
         }
-        match apply(&self.table, &mut body) {
+        // No array vector: it fills all its places, moves them, and blanks those that are cut off.
+        let mut literals = [0; MAX_LITERALS];
+        let body = &mut literals[..clause.len()];
+        body.copy_from_slice(clause);
+        match apply(&self.table, body) {
             None => Ok(()),
-            Some(count) => {
-                body.truncate(count);
-                self.store(&body)
-            }
+            Some(count) => self.store(&body[..count]),
         }
     }
 

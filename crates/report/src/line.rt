@@ -1,5 +1,6 @@
 // The bytes of one line: three numbers, each right-justified in six columns, and a line feed.
 ghost use Rattle.std.specs.Prelude.{◌≡◌, ◌*◌, ◌<◌, ◌≤◌};
+ghost use Rattle.cnf.specs.Table.{kind_of};
 ghost use Rattle.report.specs.Lines.{has_digit, place, column as column_of, line as line_of, kind_line};
 
 use cnf::kind::Kind;
@@ -43,11 +44,18 @@ fn column(negative: bool, number: usize) -> [u8; 6]
 pub fn line(first: usize, second: usize, negative: bool, third: usize) -> [u8; 19]
     ensures { result ≡ line_of first second negative third }
 {
-    let mut bytes = [b'\n'; 19];
-    bytes[0..6].copy_from_slice(&column(false, first));
-    bytes[6..12].copy_from_slice(&column(false, second));
-    bytes[12..18].copy_from_slice(&column(negative, third));
-    bytes
+    // Byte by byte: three copies into a space cost as much again as the digits.
+    let [a, b, c, d, e, f] = column(false, first);
+    let [g, h, i, j, k, l] = column(false, second);
+    let [m, n, o, p, q, r] = column(negative, third);
+    [a, b, c, d, e, f, g, h, i, j, k, l, m, n, o, p, q, r, b'\n']
+}
+
+// The line of the variable v, where this is its entry in a table.
+pub(crate) fn entry_line(v: usize, entry: u16) -> [u8; 19]
+    ensures { result ≡ kind_line v (kind_of v entry) }
+{
+    kind_line(v, Kind::of(v, entry))
 }
 
 // The line of the variable v.

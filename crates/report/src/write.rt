@@ -1,8 +1,7 @@
 // Reports at the beginning of a byte space.
 ghost use Rattle.report.specs.Lines.{net_report, contradiction_report, refusal_report, Written};
 
-use crate::line::{kind_line, line};
-use cnf::kind::Kind;
+use crate::line::{entry_line, line};
 use faults::{Located, SheetFault};
 
 // The bytes of a line.
@@ -30,7 +29,7 @@ pub fn write_nets(entries: &[u16], out: &mut [u8]) -> Result<usize, SheetFault>
         return Err(SheetFault::SpaceShort);
     }
     for (i, entry) in nets.iter().enumerate() {
-        let bytes = kind_line(i + 1, Kind::of(i + 1, *entry));
+        let bytes = entry_line(i + 1, *entry);
         out[LINE * i..LINE * i + LINE].copy_from_slice(&bytes);
     }
     Ok(LINE * nets.len())

@@ -14,4 +14,4 @@ loop-i-preserved c =
     let entry : get_or c.in-Some.nets.now i 0 ≡ get_or c.args.entries.now (i + 1) 0
     = ap (λ k. get_or (c.in-Some.field-0-0.now ∷ c.in-Some.nets.now) k 0) z ∙ ap (λ xs. get_or xs (i + 1) 0) (sym c.in-Some.ensures.cases.0) in
     filling_more _ _ _ _ c.loop-i.invariant (omega (arith, c.in-Some.ensures.cases.1)) (omega arith) (19 * i + 19 - 19 * i) c.copy_from_slice.new.self (omega arith)
-    (c.copy_from_slice.ensures.after ∙ c.kind_line-bytes.ensures ∙ ap (kind_line (i + 1)) (c.of.ensures ∙ ap (kind_of (i + 1)) entry))
+    (c.copy_from_slice.ensures.after ∙ c.entry_line-bytes.ensures ∙ ap (λ e. kind_line (i + 1) (kind_of (i + 1) e)) entry)

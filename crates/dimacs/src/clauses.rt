@@ -112,6 +112,10 @@ impl Clauses {
         ensures ok { OnOk result (Reads self.old (words (placed line text.now)) self.new) }
         ensures err { IfErr result (Stops self.old (words (placed line text.now))) }
     {
+        // No iterator for an empty line: a text may have many.
+        if text.is_empty() {
+            return Ok(());
+        }
         let tokens = text
             .split(|b| matches!(b, b' ' | b'\t'))
             .filter(|token| !token.is_empty());
